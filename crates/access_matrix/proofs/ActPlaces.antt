@@ -3,10 +3,9 @@ use Rattle.std.proofs.Common.{◌≡◌, ◌≢◌, ◌⊎◌, inl, inr, ℕ, Li
 use Rattle.std.specs.Option.{option_map}
 use Rattle.std.specs.Prelude.{IsSome, unwrap_or}
 use Rattle.std.specs.declared.cmp.Ordering.TheVariants.{Greater}
-use Rattle.card_types.specs.AidOrder.{aid_order}
+use Rattle.card_types.specs.Aid.{aid_order}
 use Rattle.card_types.specs.Found.{aid_of}
-use Rattle.card_types.specs.Represents.{domain_aid, file_aid}
-use Rattle.card_types.specs.Slots.{held}
+use Rattle.card_types.specs.Represents.{domain_aid, file_aid, held}
 use Rattle.card_types.specs.declared.found.Found.{Found}
 use Rattle.card_types.specs.declared.found.Found.TheVariants as found
 use Rattle.card_types.specs.declared.tables.Entry.{Entry}

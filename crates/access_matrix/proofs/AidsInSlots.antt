@@ -4,11 +4,8 @@ use Rattle.std.proofs.lemmas.List.Elements.{All-contains}
 use Rattle.card_types.proofs.Domains.{well_entry}
 use Rattle.card_types.proofs.FileNames.{file_in_slot}
 use Rattle.card_types.proofs.LeastOfList.{found_fits}
-use Rattle.card_types.specs.Aid.{IsAid}
-use Rattle.card_types.specs.AidOrder.{same_aid}
-use Rattle.card_types.specs.InOrder.{IsInOrder}
-use Rattle.card_types.specs.Represents.{file_of}
-use Rattle.card_types.specs.Slots.{held}
+use Rattle.card_types.specs.Aid.{IsAid, same_aid}
+use Rattle.card_types.specs.Represents.{IsInOrder, file_of, held}
 use Rattle.card_types.specs.Well.{IsWellFile}
 use Rattle.card_types.specs.declared.tables.Entry.{Entry}
 use Rattle.card_types.specs.declared.tables.LoadFile.{LoadFile}

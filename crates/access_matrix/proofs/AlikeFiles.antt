@@ -2,7 +2,7 @@
 use Rattle.std.proofs.Common.{◌≡◌, inl, inr, ℕ, ◌≤◌, List, [], ◌∷◌, length, Option, None, Some, refl, sym, subst, ◌∙◌}
 use Rattle.std.specs.Prelude.{Contains, IsSome, MatchOption, find}
 use Rattle.apdu_core.specs.Apdu.{Apdu}
-use Rattle.card_types.specs.AidOrder.{same_aid}
+use Rattle.card_types.specs.Aid.{same_aid}
 use Rattle.card_types.specs.Registry.{Counter, Entry, Key, LoadFile, Object, Registry, file_named}
 use Rattle.card_types.specs.declared.card_life.CardLife.{CardLife}
 use Rattle.card_types.specs.declared.limits.TheConstants.{FILES}
@@ -14,7 +14,7 @@ use Rattle.policy_machine.specs.EntryStatus.{SettingStatusFails, managed_entry_s
 use Rattle.policy_machine.specs.declared.entry_status.RuleSS.{RuleSS}
 use Rattle.policy_machine.specs.declared.entry_status.RuleSS.TheVariants.{SS1, SS2, SS3, SS4}
 use Rattle.policy_machine.specs.Extradition.{ExtraditingFails, managed_extradition}
-use Rattle.policy_machine.specs.FirstFailing.{IsFirst}
+use Rattle.policy_machine.specs.Refusal.{IsFirst}
 use Rattle.policy_machine.specs.InitializeUpdate.{InitializeUpdateFails, initialize_update, offer_rules}
 use Rattle.policy_machine.specs.KeySets.{OwnsSets}
 use Rattle.policy_machine.specs.InstallApplication.{InstallAsked, InstallingFails, managed_install}

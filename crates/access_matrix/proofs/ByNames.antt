@@ -7,8 +7,7 @@ use Rattle.card_types.specs.Found.{aid_of}
 use Rattle.card_types.specs.Privileges.{has, security_domain}
 use Rattle.card_types.specs.Registry as registry
 use Rattle.card_types.specs.Registry.{entry_named, file_named, is_domain}
-use Rattle.card_types.specs.Represents.{Represents, domain_aid, file_aid}
-use Rattle.card_types.specs.Slots.{held}
+use Rattle.card_types.specs.Represents.{Represents, domain_aid, file_aid, held}
 use Rattle.card_types.specs.Well.{IsDomainNamed}
 use Rattle.card_types.specs.declared.found.Found.{Found}
 use Rattle.card_types.specs.declared.found.Found.TheVariants as found

@@ -8,14 +8,13 @@ use Rattle.std.specs.List.{concat}
 use Rattle.std.proofs.Math.Seq.{take-nil}
 use Rattle.std.specs.List.Sorted.{IsPermutation, IsStrictlySortedBy}
 use Rattle.std.proofs.lemmas.List.Sorted.{IsPermutation-map}
-use Rattle.card_types.specs.AidOrder.{aid_order}
+use Rattle.card_types.specs.Aid.{aid_order, same_aid}
 use Rattle.card_types.specs.Represents.{Represents, domain_aid, file_of, used}
 use Rattle.card_types.specs.declared.tables.Entry.{Entry as Slot}
 use Rattle.card_types.specs.declared.tables.LoadFile.{LoadFile as File}
 use Rattle.card_types.specs.declared.tables.Tables.{Tables}
 use Rattle.rec_store.proofs.OneRegistry.{said_once}
 use Rattle.card_types.proofs.Members.{contains_map, mapped}
-use Rattle.card_types.specs.AidOrder.{same_aid}
 use Rattle.card_types.specs.Registry.{LoadFile, Registry}
 use Rattle.access_matrix.specs.May.{May}
 use Rattle.access_matrix.specs.declared.deed.Deed.{Deed}

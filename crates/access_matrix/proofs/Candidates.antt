@@ -1,6 +1,6 @@
 -- The candidates in order: by their domains, then by their acts.
 use Rattle.std.proofs.Common.{◌⊎◌, inl, inr, ℕ, List, ◌∷◌, None, Some, refl, sym}
-use Rattle.card_types.specs.AidOrder.{aid_order}
+use Rattle.card_types.specs.Aid.{aid_order}
 use Rattle.card_types.specs.Represents.{domain_aid}
 use Rattle.card_types.specs.declared.tables.Tables.{Tables}
 use Rattle.access_matrix.specs.Deeds.{deed_of}

@@ -6,8 +6,7 @@ use Rattle.std.proofs.lemmas.List.Elements.{All-contains}
 use Rattle.apdu_core.specs.Apdu.{Apdu}
 use Rattle.card_types.proofs.LeastOfList.{found_some}
 use Rattle.card_types.proofs.SameAid.{same_aid_decides}
-use Rattle.card_types.specs.Aid.{IsAid}
-use Rattle.card_types.specs.AidOrder.{same_aid}
+use Rattle.card_types.specs.Aid.{IsAid, same_aid}
 use Rattle.card_types.specs.Privileges.{ArePrivilegeBytes}
 use Rattle.card_types.specs.Registry.{Registry, entry_named, file_named, is_domain}
 use Rattle.card_types.specs.Well.{IsDomainNamed, IsWellEntry, IsWellFile, Well}

@@ -5,19 +5,16 @@ use Rattle.std.specs.Option.{option_map}
 use Rattle.apdu_core.specs.Apdu.{Apdu}
 use Rattle.card_types.proofs.Domains.{domain_aid_is}
 use Rattle.card_types.specs.Registry.{Registry, entry_named}
-use Rattle.card_types.specs.Represents.{Represents, domain_aid}
-use Rattle.card_types.specs.Slots.{held}
+use Rattle.card_types.specs.Represents.{Represents, domain_aid, held}
 use Rattle.card_types.specs.Well.{Well}
 use Rattle.card_types.specs.declared.tables.Entry.{Entry}
 use Rattle.card_types.specs.declared.tables.Tables.{Tables}
 use Rattle.policy_machine.proofs.FreshChannel.{fresh_is_well}
 use Rattle.policy_machine.specs.Sound.{IsSound, IsWellChannel}
-use Rattle.policy_machine.specs.Volatile.{channel_at, place_in}
+use Rattle.policy_machine.specs.State.{channel_at, place_in}
 use Rattle.policy_slots.proofs.NearestHolder.{slot_named}
-use Rattle.policy_slots.specs.Acting.{ActsIn}
-use Rattle.policy_slots.specs.KeptPlaces.{place_of}
+use Rattle.policy_slots.specs.StateShown.{ActsIn, place_of, IsSelectedIn, RepresentsState}
 use Rattle.policy_slots.specs.LiveEnds.{first_live, live_with_channel}
-use Rattle.policy_slots.specs.StateShown.{IsSelectedIn, RepresentsState}
 use Rattle.policy_slots.specs.declared.live.Live.{Live}
 use Rattle.access_matrix.specs.There.{judged_there, with_domain}
 

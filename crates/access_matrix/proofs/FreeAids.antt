@@ -10,16 +10,15 @@ use Rattle.std.proofs.Math.Nat.{lt_of_lt_of_le}
 use Rattle.card_types.proofs.LeastOfList.{found_some}
 use Rattle.card_types.proofs.Members.{contains_map}
 use Rattle.card_types.proofs.SameAid.{same_aid_decides}
-use Rattle.card_types.specs.AidOrder.{same_aid}
+use Rattle.card_types.specs.Aid.{same_aid}
 use Rattle.card_types.specs.Well.{Well}
 use Rattle.card_types.proofs.EntryNames.{slot_of_entry}
 use Rattle.card_types.proofs.FileNames.{slot_of_file}
 use Rattle.card_types.proofs.FoundNames.{found_entry_named, found_file_named}
 use Rattle.card_types.specs.Found.{aid_of}
-use Rattle.card_types.specs.InOrder.{IsInOrder}
+use Rattle.card_types.specs.Represents.{IsInOrder, Represents}
 use Rattle.card_types.specs.Registry as registry
 use Rattle.card_types.specs.Registry.{Registry, entry_named, file_named}
-use Rattle.card_types.specs.Represents.{Represents}
 use Rattle.card_types.specs.declared.found.Found.{Found}
 use Rattle.card_types.specs.declared.found.Found.TheVariants as found
 use Rattle.card_types.specs.declared.tables.Tables.{Tables}

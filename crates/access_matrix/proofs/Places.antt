@@ -4,7 +4,7 @@ use Rattle.std.specs.Option.{option_map}
 use Rattle.std.specs.Ordering.{ordering_then}
 use Rattle.std.specs.declared.cmp.Ordering.{Ordering}
 use Rattle.std.specs.declared.cmp.Ordering.TheVariants.{Less, Equal, Greater}
-use Rattle.card_types.specs.AidOrder.{aid_order}
+use Rattle.card_types.specs.Aid.{aid_order}
 use Rattle.card_types.proofs.SameAid.{aid_equal_itself, aid_equal_same}
 use Rattle.access_matrix.specs.Next.{IsNext, IsPast, NoneNext, place_order}
 

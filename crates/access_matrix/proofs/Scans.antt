@@ -5,11 +5,10 @@ use Rattle.std.specs.declared.cmp.Ordering.{Ordering}
 use Rattle.std.specs.declared.cmp.Ordering.TheVariants.{Less, Equal, Greater}
 use Rattle.std.proofs.lemmas.Bool.{and_from, and_parts}
 use Rattle.std.proofs.lemmas.Cmp.{nat_list_cmp_total}
-use Rattle.card_types.specs.AidOrder.{aid_order, same_aid}
-use Rattle.card_types.specs.Following.{is_above}
-use Rattle.card_types.specs.Least.{IsLeast, NoneFits}
+use Rattle.card_types.specs.Aid.{aid_order, same_aid}
+use Rattle.card_types.specs.Search.{is_above, IsLeast, NoneFits}
 use Rattle.card_types.specs.Privileges.{has, security_domain}
-use Rattle.card_types.specs.Slots.{held}
+use Rattle.card_types.specs.Represents.{held}
 use Rattle.card_types.specs.declared.found.Found.{Found}
 use Rattle.card_types.specs.declared.found.Found.TheVariants as found
 use Rattle.card_types.specs.declared.tables.Entry.{Entry}

@@ -6,7 +6,7 @@ use Rattle.card_types.specs.Registry.{Registry}
 use Rattle.policy_machine.specs.Admission.{admitted_as, class_passed, message_joined}
 use Rattle.policy_machine.specs.OwnRules.{AlikeAreJudgedAlike, AreAlike, OpenedAreJudged, selections}
 use Rattle.policy_machine.specs.Classes.{IsKnown}
-use Rattle.policy_machine.specs.Volatile.{Volatile, without_load}
+use Rattle.policy_machine.specs.State.{Volatile, without_load}
 use Rattle.policy_machine.specs.declared.instruction.TheConstants.{EXTERNAL_AUTHENTICATE, LOAD, PUT_KEY}
 use Rattle.scp03_card.specs.Opens.{Opens, accepting}
 use Rattle.scp03_card.specs.Session.{Session}

@@ -5,9 +5,8 @@ use Rattle.card_types.specs.Registry.{Registry}
 use Rattle.card_types.specs.declared.card_life.CardLife.TheVariants.{Terminated}
 use Rattle.policy_machine.specs.CommandForm.{FailsFirst}
 use Rattle.policy_machine.specs.Sound.{IsSound}
-use Rattle.policy_machine.specs.State.{State}
+use Rattle.policy_machine.specs.State.{State, Secured, with_secure_channel}
 use Rattle.policy_machine.specs.Step.{Outcome, Step}
-use Rattle.policy_machine.specs.Volatile.{Secured, with_secure_channel}
 use Rattle.scp03_card.specs.Opens.{Opens}
 use Rattle.scp03_card.specs.Session.{Session}
 use Rattle.access_matrix.specs.Commands.{IsCommandOf, form_of}

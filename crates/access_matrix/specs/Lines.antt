@@ -1,6 +1,6 @@
 -- For the code inside. The line of a right by slots: whether an entry is locked is read from its slot.
 use Rattle.std.specs.Prelude.{ℕ, List, ◌∷◌, [], ◌++◌, Bool, false, Option, None, Some, codes, cond}
-use Rattle.card_types.specs.Slots.{held}
+use Rattle.card_types.specs.Represents.{held}
 use Rattle.card_types.specs.declared.tables.Entry.{Entry}
 use Rattle.card_types.specs.declared.tables.Tables.{Tables}
 use Rattle.hex.specs.Hex.{encode_lower}

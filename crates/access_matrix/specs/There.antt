@@ -3,8 +3,7 @@ use Rattle.std.specs.Prelude.{ℕ, List, None}
 use Rattle.apdu_core.specs.Apdu.{Apdu}
 use Rattle.card_types.specs.Registry.{Registry}
 use Rattle.policy_machine.specs.Admission.{Admitted}
-use Rattle.policy_machine.specs.State.{State}
-use Rattle.policy_machine.specs.Volatile.{first_volatile, with_selected}
+use Rattle.policy_machine.specs.State.{State, first_volatile, with_selected}
 
 -- a card that was just powered on, with the domain selected on the basic channel
 abbrev pub with_domain : Registry → List ℕ → State

@@ -4,9 +4,8 @@ ghost use Rattle.std.specs.Prelude.{◌≡◌, ◌↔◌, ◌<◌, ℕ, List, No
 ghost use Rattle.access_matrix.specs.May.{IsSelectable, initialize};
 ghost use Rattle.access_matrix.specs.Passing.{ForSaid, IsUsed};
 ghost use Rattle.access_matrix.specs.There.{judged_there};
-ghost use Rattle.card_types.specs.InOrder.{IsInOrder};
+ghost use Rattle.card_types.specs.Represents.{IsInOrder, Represents, domain_aid};
 ghost use Rattle.card_types.specs.Registry.{Registry};
-ghost use Rattle.card_types.specs.Represents.{Represents, domain_aid};
 ghost use Rattle.policy_machine.specs.CommandForm.{FailsFirst};
 ghost use Rattle.policy_machine.specs.InitializeUpdate.{initialize_update};
 ghost use Rattle.policy_slots.specs.LiveEnds.{first_live, live_with_channel};

@@ -4,11 +4,9 @@ ghost use Rattle.std.specs.Prelude.{◌≡◌, ◌↔◌, ℕ, [], ◌∷◌, Is
 ghost use Rattle.access_matrix.specs.Commands.{module_for, privileges_for};
 ghost use Rattle.access_matrix.specs.Passing.{ForSaid, IsAccepted, IsUsed, deletion_of};
 ghost use Rattle.access_matrix.specs.declared.deed.Deed.TheVariants as deed;
-ghost use Rattle.card_types.specs.Aid.{IsAid};
-ghost use Rattle.card_types.specs.AidOrder.{same_aid};
-ghost use Rattle.card_types.specs.InOrder.{IsInOrder};
+ghost use Rattle.card_types.specs.Aid.{IsAid, same_aid};
+ghost use Rattle.card_types.specs.Represents.{IsInOrder, domain_aid};
 ghost use Rattle.card_types.specs.Privileges.{ArePrivilegeBytes};
-ghost use Rattle.card_types.specs.Represents.{domain_aid};
 ghost use Rattle.card_types.specs.declared.factory.TheConstants.{FACTORY_FILE};
 
 use crate::acceptance::live_with;

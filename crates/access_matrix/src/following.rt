@@ -2,9 +2,9 @@
 
 ghost use Rattle.std.specs.Prelude.{◌≡◌, ◌&&◌, ℕ, IfSome, IfNone, option_copied};
 ghost use Rattle.std.proofs.lemmas.Cmp.{nat_list_cmp_total, on_total};
-ghost use Rattle.card_types.specs.AidOrder.{aid_order, same_aid};
-ghost use Rattle.card_types.specs.Following.{is_above};
-ghost use Rattle.card_types.specs.Layout.{HasLayout};
+ghost use Rattle.card_types.specs.Aid.{aid_order, same_aid};
+ghost use Rattle.card_types.specs.Search.{is_above};
+ghost use Rattle.card_types.specs.Represents.{HasLayout};
 ghost use Rattle.card_types.specs.Privileges.{has, security_domain};
 ghost use Rattle.access_matrix.specs.Next.{HasDomain, HasEntry, HasFile, HasThing, IsNext, NoneNext};
 

@@ -1,7 +1,7 @@
 //! Acts and candidates by AIDs.
 
 ghost use Rattle.std.specs.Prelude.{◌≡◌};
-ghost use Rattle.card_types.specs.InOrder.{IsInOrder};
+ghost use Rattle.card_types.specs.Represents.{IsInOrder};
 ghost use Rattle.access_matrix.specs.Deeds.{AreUsed, deed_of as named_deed};
 ghost use Rattle.access_matrix.specs.Next.{IsCandidate, right_of as named_right};
 

@@ -4,9 +4,8 @@ ghost use Rattle.std.specs.Prelude.{◌≡◌, ◌↔◌, ℕ, List, IsTrue};
 ghost use Rattle.access_matrix.specs.Deeds.{AreUsed, HoldsDomain, deed_of};
 ghost use Rattle.access_matrix.specs.May.{May};
 ghost use Rattle.access_matrix.specs.Passing.{ForSaid, IsAccepted, IsUsed};
-ghost use Rattle.card_types.specs.InOrder.{IsInOrder};
+ghost use Rattle.card_types.specs.Represents.{IsInOrder, Represents, domain_aid};
 ghost use Rattle.card_types.specs.Registry.{Registry};
-ghost use Rattle.card_types.specs.Represents.{Represents, domain_aid};
 
 use crate::acceptance::{is_selectable, offers_session};
 use crate::act::Act;

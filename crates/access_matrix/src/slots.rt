@@ -5,9 +5,7 @@ ghost use Rattle.access_matrix.specs.Deeds.{found_aid};
 ghost use Rattle.access_matrix.specs.Passing.{IsUsed};
 ghost use Rattle.card_types.specs.Aid.{IsAid};
 ghost use Rattle.card_types.specs.Found.{aid_of};
-ghost use Rattle.card_types.specs.InOrder.{IsInOrder};
-ghost use Rattle.card_types.specs.Represents.{domain_aid, file_aid};
-ghost use Rattle.card_types.specs.Slots.{held};
+ghost use Rattle.card_types.specs.Represents.{IsInOrder, domain_aid, file_aid, held};
 
 use card_types::{Aid, Found, Tables, in_slot};
 

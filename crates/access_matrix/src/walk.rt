@@ -2,9 +2,8 @@
 
 ghost use Rattle.std.specs.Prelude.{◌≡◌, ◌<◌, ◌≤◌, ℕ, List, false, None, IsTrue, MatchOption};
 ghost use Rattle.arrayvec.specs.ArrayVec.{array_vec_len};
-ghost use Rattle.card_types.specs.InOrder.{IsInOrder};
+ghost use Rattle.card_types.specs.Represents.{IsInOrder, Represents};
 ghost use Rattle.card_types.specs.Registry.{Registry};
-ghost use Rattle.card_types.specs.Represents.{Represents};
 ghost use Rattle.access_matrix.specs.Rights.{IsNextRight, NoRightAfter};
 ghost use Rattle.access_matrix.specs.Text.{line_of};
 ghost use Rattle.access_matrix.specs.Walks.{rights_left};

@@ -7,8 +7,7 @@ use Rattle.cmac_kdf.specs.Blocks.{IsBytes}
 use Rattle.policy_machine.specs.Admission.{Admits, Admitted, admitted_as, class_passed, message_joined}
 use Rattle.policy_machine.specs.Classes.{IsKnown, channel_of, class_of, instructions_of, is_protected, protects}
 use Rattle.policy_machine.specs.Sound.{IsSound}
-use Rattle.policy_machine.specs.State.{State}
-use Rattle.policy_machine.specs.Volatile.{Channel, Secured, Volatile, channel_at, channel_with, secure_channel_of, selected_on, session_in, session_on, without_load}
+use Rattle.policy_machine.specs.State.{State, Channel, Secured, Volatile, channel_at, channel_with, secure_channel_of, selected_on, session_in, session_on, without_load}
 use Rattle.policy_machine.specs.declared.class.Class.{Class}
 use Rattle.policy_machine.specs.declared.class.Class.TheVariants.{Interindustry, Plain, Secure}
 use Rattle.policy_machine.specs.declared.instruction.TheConstants.{EXTERNAL_AUTHENTICATE, LOAD}

@@ -13,13 +13,12 @@ use Rattle.policy_machine.specs.Charge.{HoldsPrivilege, IsAtOrAbove}
 use Rattle.policy_machine.specs.Classes.{channel_of}
 use Rattle.policy_machine.specs.Commands.{HasEffect, Judges, TakesCommand}
 use Rattle.policy_machine.specs.Delegation.{Holds}
-use Rattle.policy_machine.specs.FirstFailing.{IsFirst}
+use Rattle.policy_machine.specs.Refusal.{IsFirst}
 use Rattle.policy_machine.specs.Load.{EndsLoad, IsLoadOn, LoadEffect, LoadFails, LoadParameters, LoadingFails, block_of, load_rules}
 use Rattle.policy_machine.specs.Load.{loading as load_form}
 use Rattle.policy_machine.specs.LoadBlocks.{BringsBytes, HasNoLength, HasNoRoom, HasOtherCount, HasOtherHash, pages_used, with_block}
 use Rattle.policy_machine.specs.Management.{acting}
-use Rattle.policy_machine.specs.State.{Effect, State}
-use Rattle.policy_machine.specs.Volatile.{LoadSession, with_load, without_load}
+use Rattle.policy_machine.specs.State.{Effect, State, LoadSession, with_load, without_load}
 use Rattle.policy_machine.specs.declared.load.RuleLO.{RuleLO}
 use Rattle.policy_machine.specs.declared.load.RuleLO.TheVariants.{LO1, LO2, LO3, LO4, LO5, LO6, LO7, LO8}
 use Rattle.policy_machine.proofs.Judging.{does_so, judged}

@@ -8,8 +8,7 @@ use Rattle.card_types.specs.declared.limits.TheConstants.{FILE_LIMIT, LOAD_PAGES
 use Rattle.cmac_kdf.specs.Blocks.{IsBytes}
 use Rattle.policy_machine.specs.Classes.{channel_of}
 use Rattle.policy_machine.specs.LoadBlocks.{pages_used}
-use Rattle.policy_machine.specs.State.{State}
-use Rattle.policy_machine.specs.Volatile.{LoadSession, selected_on}
+use Rattle.policy_machine.specs.State.{State, LoadSession, selected_on}
 use Rattle.scp03_card.specs.Session.{Session}
 use Rattle.scp03_host.specs.Wrapped.{having_sent}
 use Rattle.sha2.specs.Sha256.{sha256}

@@ -4,12 +4,12 @@ use Rattle.std.specs.Prelude.{MatchOption}
 use Rattle.std.specs.List.Sorted.{IsStrictlySortedBy}
 use Rattle.card_types.proofs.FactoryWell.{factory_well}
 use Rattle.card_types.proofs.NamedThings.{aid_differs}
-use Rattle.card_types.specs.Ascending.{IsAscending}
+use Rattle.card_types.specs.Registry.{IsAscending}
 use Rattle.card_types.specs.ChangeLaws.{IsFreeAid}
 use Rattle.card_types.specs.Factory.{factory_registry}
 use Rattle.card_types.specs.declared.factory.TheConstants.{FACTORY_FILE, ISSUER}
 use Rattle.policy_machine.specs.Sound.{IsSound, IsWellChannel, IsWellOffer}
-use Rattle.policy_machine.specs.Volatile.{channel_at}
+use Rattle.policy_machine.specs.State.{channel_at}
 use Rattle.scp03_card.specs.Session.{Session}
 use Rattle.cap_pack.specs.FactoryLoads.{FactoryMayLoad, factory_in_session}
 

@@ -4,9 +4,8 @@ use Rattle.std.proofs.lemmas.Cmp.{nat_list_cmp_total, on_total}
 use Rattle.card_types.proofs.ChangeExists.{put_in}
 use Rattle.card_types.proofs.LeastOfList.{none_fits, sorted_by_name}
 use Rattle.card_types.proofs.SameAid.{aid_equal_same, same_aid_decides}
-use Rattle.card_types.specs.AidOrder.{aid_order, same_aid}
-use Rattle.card_types.specs.Ascending.{IsAscending}
-use Rattle.card_types.specs.Registry.{LoadFile, Registry, file_named}
+use Rattle.card_types.specs.Aid.{aid_order, same_aid}
+use Rattle.card_types.specs.Registry.{IsAscending, LoadFile, Registry, file_named}
 use Rattle.card_types.specs.RegistryChange.{IsFileAdded}
 
 pub file_put : (registry : Registry) (file : LoadFile) → IsAscending registry → file_named registry file.aid ≡ None

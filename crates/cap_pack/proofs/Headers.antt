@@ -4,7 +4,7 @@ use Rattle.std.specs.Cmp.Lexicographic.{pointwise, same_text}
 use Rattle.std.proofs.lemmas.List.{append_cancel_left, take-append-drop}
 use Rattle.card_types.specs.Aid.{IsAid}
 use Rattle.tokens_receipts.specs.Receipt.{with_length}
-use Rattle.script_tool.specs.Reads.{Reads}
+use Rattle.script_tool.specs.Words.{Reads}
 use Rattle.cap_pack.specs.Cap.{HasHeader, IsHeader}
 use Rattle.cap_pack.specs.Components.{AreComponents, Component, IsComponent, spelled}
 use Rattle.cap_pack.specs.declared.component.TheConstants.{HEADER}

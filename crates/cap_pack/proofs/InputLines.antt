@@ -7,8 +7,7 @@ use Rattle.std.proofs.lemmas.List.{append-nil}
 use Rattle.hex.specs.Hex.{decode_of, is_hex_digit}
 use Rattle.hex.proofs.HexLemmas.{decode_of-ok, decode_of-same}
 use Rattle.script_tool.specs.Line.{IsBlank, IsComment}
-use Rattle.script_tool.specs.Reads.{Reads}
-use Rattle.script_tool.specs.Values.{SpellsUpTo}
+use Rattle.script_tool.specs.Words.{Reads, SpellsUpTo}
 use Rattle.line_runs.specs.Ends.{TakesLines}
 use Rattle.cap_pack.specs.Input.{JoinsLine, SpellLines, SpellsLine, joined, limited}
 use Rattle.cap_pack.specs.declared.limit.TheConstants.{CAP_LIMIT}

@@ -15,11 +15,10 @@ use Rattle.policy_machine.specs.Charge.{HoldsPrivilege}
 use Rattle.policy_machine.specs.Classes.{channel_of}
 use Rattle.policy_machine.specs.Commands.{HasEffect, Judges, TakesCommand}
 use Rattle.policy_machine.specs.Delegation.{Holds}
-use Rattle.policy_machine.specs.FirstFailing.{IsFirst}
+use Rattle.policy_machine.specs.Refusal.{IsFirst}
 use Rattle.policy_machine.specs.InstallLoad.{AsksToLoad, InstallingLoadFails, LoadData, install_load, judged_install_load, load_begun}
 use Rattle.policy_machine.specs.Management.{acting}
-use Rattle.policy_machine.specs.State.{Effect, State}
-use Rattle.policy_machine.specs.Volatile.{load_without_channel, selected_on, with_load}
+use Rattle.policy_machine.specs.State.{Effect, State, load_without_channel, selected_on, with_load}
 use Rattle.policy_machine.specs.declared.install_load.RuleIL.{RuleIL}
 use Rattle.policy_machine.specs.declared.install_load.RuleIL.TheVariants.{IL1, IL2, IL3, IL4, IL5, IL6, IL7}
 use Rattle.policy_machine.proofs.FirstLike.{none_first}

@@ -4,7 +4,7 @@ use Rattle.std.specs.Prelude.{MatchOption, ◌&&◌}
 use Rattle.std.proofs.lemmas.Bool.{false≢true, true≢false}
 use Rattle.std.proofs.lemmas.List.Elements.{All-contains}
 use Rattle.card_types.proofs.LeastOfList.{found_fits}
-use Rattle.card_types.specs.AidOrder.{same_aid}
+use Rattle.card_types.specs.Aid.{same_aid}
 use Rattle.card_types.specs.Privileges.{authorized_management, delegated_management, has}
 use Rattle.card_types.specs.Registry.{Entry, Registry, entry_named}
 use Rattle.card_types.specs.Well.{IsWellEntry, Well}
@@ -13,9 +13,8 @@ use Rattle.card_types.specs.declared.card_life.CardLife.TheVariants.{Locked}
 use Rattle.policy_machine.specs.Charge.{HoldsPrivilege, is_privileged}
 use Rattle.policy_machine.specs.Classes.{channel_of}
 use Rattle.policy_machine.specs.Select.{is_card_locked}
-use Rattle.policy_machine.specs.State.{State}
+use Rattle.policy_machine.specs.State.{State, LoadSession, load_without_channel, selected_on, session_on}
 use Rattle.policy_machine.specs.Step.{Outcome}
-use Rattle.policy_machine.specs.Volatile.{LoadSession, load_without_channel, selected_on, session_on}
 use Rattle.policy_machine.proofs.OneOutcome.{one_run}
 use Rattle.scp03_card.specs.Session.{Session}
 use Rattle.script_tool.specs.Load.{block_element, load_blocks}

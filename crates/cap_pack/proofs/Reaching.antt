@@ -11,9 +11,8 @@ use Rattle.policy_machine.specs.Classes.{channel_of}
 use Rattle.policy_machine.specs.Commands.{HasEffect, Judges}
 use Rattle.policy_machine.specs.Run.{Run}
 use Rattle.policy_machine.specs.Select.{is_card_locked}
-use Rattle.policy_machine.specs.State.{Effect, State}
+use Rattle.policy_machine.specs.State.{Effect, State, session_on}
 use Rattle.policy_machine.specs.Step.{Outcome, Step, accepted}
-use Rattle.policy_machine.specs.Volatile.{session_on}
 use Rattle.policy_machine.proofs.KeepsSound.{steps_keep_sound}
 use Rattle.scp03_card.specs.Protected.{protected}
 use Rattle.scp03_card.specs.Session.{Session}

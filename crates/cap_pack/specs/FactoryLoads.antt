@@ -6,8 +6,7 @@ use Rattle.card_types.specs.declared.factory.TheConstants.{FACTORY_FILE, ISSUER}
 use Rattle.card_types.specs.declared.limits.TheConstants.{FILE_LIMIT}
 use Rattle.cmac_kdf.specs.Blocks.{IsBytes}
 use Rattle.policy_machine.specs.Sound.{IsWellOffer}
-use Rattle.policy_machine.specs.State.{State}
-use Rattle.policy_machine.specs.Volatile.{Secured, first_volatile, with_secure_channel}
+use Rattle.policy_machine.specs.State.{State, Secured, first_volatile, with_secure_channel}
 use Rattle.scp03_card.specs.Session.{Session}
 use Rattle.cap_pack.specs.Loads.{MayLoad}
 

@@ -15,9 +15,8 @@ use Rattle.policy_machine.specs.LoadBlocks.{pages_used}
 use Rattle.policy_machine.specs.Run.{Input, Run}
 use Rattle.policy_machine.specs.Run as run
 use Rattle.policy_machine.specs.Sound.{IsSound}
-use Rattle.policy_machine.specs.State.{State}
+use Rattle.policy_machine.specs.State.{State, selected_on, session_on}
 use Rattle.policy_machine.specs.Step.{Outcome}
-use Rattle.policy_machine.specs.Volatile.{selected_on, session_on}
 use Rattle.scp03_card.specs.Protected.{protected}
 use Rattle.scp03_card.specs.Session.{Session}
 use Rattle.scp03_host.specs.Wrapped.{having_sent, wrapped}

@@ -2,7 +2,7 @@
 
 ghost use Rattle.std.specs.Prelude.{◌≡◌, ◌++◌, List, ℕ, IfNone, IfSome};
 ghost use Rattle.card_types.specs.Aid.{IsAid};
-ghost use Rattle.script_tool.specs.Reads.{Reads};
+ghost use Rattle.script_tool.specs.Words.{Reads};
 ghost use Rattle.tokens_receipts.specs.Receipt.{with_length};
 ghost use Rattle.cap_pack.specs.Cap.{HasHeader, IsHeader};
 ghost use Rattle.cap_pack.specs.Components.{AreComponents};

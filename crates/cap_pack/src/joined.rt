@@ -6,7 +6,7 @@ ghost use Rattle.cap_pack.specs.Held.{IsCap};
 ghost use Rattle.cap_pack.specs.Input.{SpellsLine, joined, joining, limited};
 ghost use Rattle.cap_pack.specs.Stops.{Stops};
 ghost use Rattle.io_edge.specs.declared.line.TheConstants.{LINE_LIMIT};
-ghost use Rattle.script_tool.specs.Reads.{Reads};
+ghost use Rattle.script_tool.specs.Words.{Reads};
 
 use crate::cap::{self, Cap};
 use crate::limit::CAP_LIMIT;
@@ -23,7 +23,7 @@ use std::marker::Model;
 const LINE_BYTES: usize = LINE_LIMIT / 2;
 
 // The bytes that a line spells, or nothing where it is malformed.
-#[tactic(auto, unfolding(script_lines::specs::Values::SpellsUpTo))]
+#[tactic(auto, unfolding(script_lines::specs::Words::SpellsUpTo))]
 fn spelled(line: &[u8]) -> Option<ArrayVec<u8, LINE_BYTES>>
     requires { length line.now ≤ LINE_LIMIT }
     ensures { Reads (λ bytes. SpellsLine line.now bytes.items) result }

@@ -3,8 +3,7 @@ use Rattle.std.proofs.Common.{◌≡◌, inl, inr, ℕ, ◌≤◌, List, [], ◌
 use Rattle.std.specs.Prelude.{All, Contains, map}
 use Rattle.std.specs.List.{concat}
 use Rattle.std.proofs.lemmas.List.Elements.{All-contains, Contains-append_left, Contains-append_right}
-use Rattle.card_types.specs.Represents.{used}
-use Rattle.card_types.specs.Slots.{held}
+use Rattle.card_types.specs.Represents.{used, held}
 use Rattle.card_types.specs.declared.factory.TheConstants.{FACTORY_FILE, ISSUER}
 use Rattle.card_types.specs.declared.limits.TheConstants.{FILE_LIMIT}
 use Rattle.card_types.specs.declared.tables.Entry.{Entry}

@@ -6,8 +6,8 @@ use Rattle.std.specs.declared.cmp.Ordering.{Ordering}
 use Rattle.std.proofs.lemmas.Bool.{and_parts, eqb-true}
 use Rattle.std.proofs.lemmas.Cmp.{nat_list_cmp_total, on_total}
 use Rattle.std.proofs.lemmas.Map.Lookups.{exact_unsigned}
-use Rattle.card_types.specs.AidOrder.{aid_order}
-use Rattle.card_types.specs.Ascending.{counter_order, key_order, object_order}
+use Rattle.card_types.specs.Aid.{aid_order}
+use Rattle.card_types.specs.Registry.{counter_order, key_order, object_order}
 use Rattle.card_types.specs.Registry as registry
 use Rattle.card_types.specs.Represents.{Represents, counter_of, entry_of, file_of, keeps_counter, key_of, object_of, used}
 use Rattle.card_types.specs.declared.tables.Entry.{Entry}

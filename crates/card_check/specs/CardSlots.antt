@@ -1,18 +1,16 @@
 -- For the code inside. What the slots of a card hold, by the numbers of the slots.
-use Rattle.std.specs.Prelude.{◌≡◌, ◌≢◌, ℕ, ◌<◌, ◌≤◌, ◌==◌, ◌&&◌, ◌||◌, Bool, true, false, List, Option, None, Some, MatchOption, IsSome, length}
 use Rattle.std.specs.List.{count_by}
+use Rattle.std.specs.Prelude.{◌≡◌, ℕ, List, Option, Some, ◌≢◌, ◌<◌, ◌≤◌, ◌==◌, ◌&&◌, ◌||◌, Bool, true, false, None, MatchOption, IsSome, length}
+use Rattle.card_check.specs.LoadPages.{HaveLoadPages}
 use Rattle.card_types.specs.Aid.{IsAid}
 use Rattle.card_types.specs.Found.{aid_of}
 use Rattle.card_types.specs.Hierarchy.{IsLine}
 use Rattle.card_types.specs.KeySets.{HasKey, HasKeys}
-use Rattle.card_types.specs.Layout.{HasSlots}
 use Rattle.card_types.specs.Privileges.{IsNamed, authorized_management, delegated_management, has, receipt_generation, security_domain, token_verification}
-use Rattle.card_types.specs.Represents.{domain_slot, keeps_counter}
-use Rattle.card_types.specs.Slots.{held}
+use Rattle.card_types.specs.Represents.{held, HasSlots, domain_slot, keeps_counter}
 use Rattle.card_types.specs.Well.{IsKeyLength, IsKeyName, IsObject, has_life}
 use Rattle.card_types.specs.declared.factory.TheConstants.{ISSUER, FACTORY_FILE, FACTORY_MODULE}
 use Rattle.card_types.specs.declared.found.Found.{Found}
-use Rattle.card_types.specs.declared.found.Found.TheVariants as found
 use Rattle.card_types.specs.declared.life.Life.TheVariants.{Personalized}
 use Rattle.card_types.specs.declared.limits.TheConstants.{COUNTER_LIMIT, DOMAIN_KEYS, RECEIPT_LIMIT}
 use Rattle.card_types.specs.declared.privileges.Privileges.{Privileges}
@@ -21,8 +19,12 @@ use Rattle.card_types.specs.declared.tables.KeyRec.{KeyRec}
 use Rattle.card_types.specs.declared.tables.LoadFile.{LoadFile}
 use Rattle.card_types.specs.declared.tables.Object.{Object}
 use Rattle.card_types.specs.declared.tables.Tables.{Tables}
-use Rattle.card_check.specs.EachSlot.{EachSlot}
-use Rattle.card_check.specs.LoadPages.{HaveLoadPages}
+use Rattle.card_types.specs.declared.found.Found.TheVariants as found
+
+-- What is so of the thing in each used slot.
+
+pub record EachSlot {T : Type 0} (slots : List (Option T)) (Is : ℕ → T → Type 0) : Type 0 where
+  pub at : (slot : ℕ) (thing : T) → held slots slot ≡ Some thing → Is slot thing
 
 -- the slot holds a security domain
 abbrev pub IsDomainSlot : List (Option Entry) → ℕ → Type 0

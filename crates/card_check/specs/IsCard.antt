@@ -1,10 +1,8 @@
 -- Tables that a card may be trusted with, over load pages of 256 bytes.
 use Rattle.std.specs.Prelude.{◌≡◌, ℕ, ◌<◌, ◌≤◌, List, MatchOption, All, length, map, nat_eq, take}
 use Rattle.std.specs.List.{IsDistinct, concat}
-use Rattle.card_types.specs.Layout.{HasLayout}
+use Rattle.card_types.specs.Represents.{HasLayout, Represents, used, held}
 use Rattle.card_types.specs.Registry.{Registry}
-use Rattle.card_types.specs.Represents.{Represents, used}
-use Rattle.card_types.specs.Slots.{held}
 use Rattle.card_types.specs.Well.{Well, pages_of}
 use Rattle.card_types.specs.declared.factory.TheConstants.{FACTORY_FILE}
 use Rattle.card_types.specs.declared.limits.TheConstants.{FILE_LIMIT}

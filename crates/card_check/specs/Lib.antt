@@ -1,4 +1,3 @@
 pub mod IsCard
-pub mod EachSlot
-pub mod LoadPages
 pub mod CardSlots
+pub mod LoadPages

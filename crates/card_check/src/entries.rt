@@ -1,9 +1,8 @@
 //! What is asked of an application or a security domain.
 
 ghost use Rattle.std.specs.Prelude.{◌≡◌, ◌↔◌, IsTrue};
-ghost use Rattle.card_check.specs.CardSlots.{HasKind, HasRights, IsCardEntry, has_domain_right as has_domain_right_of};
-ghost use Rattle.card_types.specs.Layout.{HasSlots};
-ghost use Rattle.card_check.specs.EachSlot.{EachSlot};
+ghost use Rattle.card_check.specs.CardSlots.{HasKind, HasRights, IsCardEntry, has_domain_right as has_domain_right_of, EachSlot};
+ghost use Rattle.card_types.specs.Represents.{HasSlots};
 ghost use Rattle.card_types.specs.Privileges.{IsNamed};
 
 use crate::domains::{is_domain, leads_to_root};

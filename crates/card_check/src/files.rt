@@ -1,9 +1,8 @@
 //! What is asked of an Executable Load File.
 
 ghost use Rattle.std.specs.Prelude.{◌↔◌, IsTrue};
-ghost use Rattle.card_check.specs.CardSlots.{IsCardFile};
-ghost use Rattle.card_types.specs.Layout.{HasSlots};
-ghost use Rattle.card_check.specs.EachSlot.{EachSlot};
+ghost use Rattle.card_check.specs.CardSlots.{IsCardFile, EachSlot};
+ghost use Rattle.card_types.specs.Represents.{HasSlots};
 
 use crate::domains::is_domain;
 use crate::names::is_alone;

@@ -2,13 +2,10 @@
 
 ghost use Rattle.std.specs.Prelude.{◌≡◌, ◌↔◌, ℕ, ◌<◌, ◌≤◌, List, IsTrue, true, length};
 ghost use Rattle.std.specs.List.{count_by};
-ghost use Rattle.card_check.specs.CardSlots.{HasOtherLength, HaveLength, IsCardKey, is_key_of as is_key_by};
-ghost use Rattle.card_types.specs.Layout.{HasSlots};
-ghost use Rattle.card_check.specs.EachSlot.{EachSlot};
+ghost use Rattle.card_check.specs.CardSlots.{HasOtherLength, HaveLength, IsCardKey, is_key_of as is_key_by, EachSlot};
+ghost use Rattle.card_types.specs.Represents.{HasSlots, held, keeps_counter};
 ghost use Rattle.card_types.specs.KeySets.{HasKey, HasKeys};
-ghost use Rattle.card_types.specs.Slots.{held};
 ghost use Rattle.card_types.specs.Well.{IsKeyLength, IsKeyName};
-ghost use Rattle.card_types.specs.Represents.{keeps_counter};
 ghost use Rattle.card_types.specs.declared.limits.TheConstants.{COUNTER_LIMIT, KEYS};
 
 use crate::domains::is_domain;

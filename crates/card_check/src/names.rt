@@ -2,7 +2,7 @@
 
 ghost use Rattle.std.specs.Prelude.{◌≡◌, ◌≢◌, ◌↔◌, IsTrue, Some};
 ghost use Rattle.card_check.specs.CardSlots.{IsAlone};
-ghost use Rattle.card_types.specs.Layout.{HasSlots};
+ghost use Rattle.card_types.specs.Represents.{HasSlots};
 ghost use Rattle.card_types.specs.Found.{aid_of};
 
 use card_types::{ENTRIES, FILES, Found, Tables, in_slot};

@@ -1,9 +1,8 @@
 //! What is asked of a data object.
 
 ghost use Rattle.std.specs.Prelude.{◌≡◌, ◌↔◌, ℕ, IsTrue, length};
-ghost use Rattle.card_check.specs.CardSlots.{HasObject, IsCardObject};
-ghost use Rattle.card_types.specs.Layout.{HasSlots};
-ghost use Rattle.card_check.specs.EachSlot.{EachSlot};
+ghost use Rattle.card_check.specs.CardSlots.{HasObject, IsCardObject, EachSlot};
+ghost use Rattle.card_types.specs.Represents.{HasSlots};
 ghost use Rattle.card_types.specs.Well.{IsObject};
 ghost use Rattle.card_types.specs.declared.limits.TheConstants.{OBJECTS};
 

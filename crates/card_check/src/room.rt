@@ -2,8 +2,7 @@
 
 ghost use Rattle.std.specs.Prelude.{◌↔◌, IsTrue, MatchOption};
 ghost use Rattle.card_check.specs.CardSlots.{IsFactoryLoadFile, IsIssuerEntry};
-ghost use Rattle.card_types.specs.Layout.{HasSlots};
-ghost use Rattle.card_types.specs.Slots.{held};
+ghost use Rattle.card_types.specs.Represents.{HasSlots, held};
 
 use card_types::{
     ENTRIES, Entry, FACTORY_FILE, FACTORY_MODULE, FILES, ISSUER, ISSUER_SLOT, KEYS, Life, LoadFile,

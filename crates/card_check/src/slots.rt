@@ -1,7 +1,7 @@
 //! What tables ask of each thing in a slot.
 
 ghost use Rattle.std.specs.Prelude.{◌↔◌, ℕ, ◌≤◌, IsTrue, length};
-ghost use Rattle.card_check.specs.EachSlot.{EachSlot};
+ghost use Rattle.card_check.specs.CardSlots.{EachSlot};
 
 use card_types::in_slot;
 

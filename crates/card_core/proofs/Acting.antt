@@ -15,15 +15,14 @@ use Rattle.std.proofs.Common.{inl}
 use Rattle.std.proofs.lemmas.List.{get_or-set_same, length-set, set-set}
 use Rattle.policy_machine.proofs.SetChannel.{set_other, set_same}
 use Rattle.policy_machine.specs.GetStatus.{channel_at_place, with_place}
-use Rattle.policy_machine.specs.Volatile.{Channel, Volatile, channel_at, secure_channel_of}
+use Rattle.policy_machine.specs.State.{Channel, Volatile, channel_at, secure_channel_of}
 use Rattle.policy_machine.specs.declared.channels.TheConstants.{CHANNELS}
 use Rattle.policy_machine.specs.declared.rule.Rule.{Rule}
 use Rattle.policy_rules.specs.Requests.{IsRequestOf}
 use Rattle.policy_slots.proofs.Selected.{selected_acts}
-use Rattle.policy_slots.specs.Acting.{ActsIn}
+use Rattle.policy_slots.specs.StateShown.{ActsIn}
 use Rattle.policy_slots.specs.declared.live.Live.{Live}
-use Rattle.card_core.specs.SecureChannels.{RepresentsChannels, RepresentsSecureChannel, held_on, without_offer_held}
-use Rattle.card_core.specs.Kept.{Kept, KeptRepresents, RepresentsSoundly}
+use Rattle.card_core.specs.Kept.{RepresentsChannels, RepresentsSecureChannel, held_on, without_offer_held, Kept, KeptRepresents, RepresentsSoundly}
 use Rattle.card_core.specs.Lists.{IsSameButPlace, Lists}
 use Rattle.card_core.specs.Manages.{KeepsSelected, Manages}
 use Rattle.card_core.specs.Offers.{AnswersAs, HoldsFor, OffersAs, secure_channel_for}

@@ -11,9 +11,8 @@ use Rattle.policy_machine.proofs.Passing.{channel_is_low}
 use Rattle.policy_machine.proofs.OneOutcome.{of_one}
 use Rattle.policy_machine.specs.Admission.{GeneralFails, IsToApplication, Of, command_rules, general_rules}
 use Rattle.policy_machine.specs.Classes.{IsKnown, channel_of, class_of}
-use Rattle.policy_machine.specs.FirstFailing.{IsFirst}
-use Rattle.policy_machine.specs.State.{State}
-use Rattle.policy_machine.specs.Volatile.{channel_at, selected_on}
+use Rattle.policy_machine.specs.Refusal.{IsFirst}
+use Rattle.policy_machine.specs.State.{State, channel_at, selected_on}
 use Rattle.policy_machine.specs.declared.class.Class.{Class}
 use Rattle.policy_machine.specs.declared.instruction.TheConstants.{SELECT, MANAGE_CHANNEL}
 use Rattle.policy_machine.specs.declared.rule.RuleG.TheVariants.{G1, G2, G3, G4}

@@ -6,12 +6,9 @@ use Rattle.std.proofs.lemmas.List.{length-replicate, length-set}
 use Rattle.card_check.specs.IsCard.{HasPages, IsInLoadPages, pages_named}
 use Rattle.card_types.proofs.DrawnCounter.{drawn_says, drawn_well}
 use Rattle.card_types.specs.Counters.{raised, raised_key}
-use Rattle.card_types.specs.InOrder.{IsInOrder}
-use Rattle.card_types.specs.Layout.{HasIssuer}
+use Rattle.card_types.specs.Represents.{IsInOrder, HasIssuer, Represents, domain_aid, keeps_counter, used, held}
 use Rattle.card_types.specs.Registry.{Registry}
-use Rattle.card_types.specs.Represents.{Represents, domain_aid, keeps_counter, used}
 use Rattle.card_types.specs.SlotChange.{SetsKey}
-use Rattle.card_types.specs.Slots.{held}
 use Rattle.card_types.specs.Well.{Well}
 use Rattle.card_types.specs.declared.factory.TheConstants.{FACTORY_FILE}
 use Rattle.card_types.specs.declared.limits.TheConstants.{COUNTER_LIMIT}

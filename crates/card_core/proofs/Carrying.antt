@@ -6,13 +6,12 @@ use Rattle.apdu_core.specs.declared.reply.Status.{Status}
 use Rattle.policy_machine.specs.Admission.{Admitted}
 use Rattle.policy_machine.specs.Commands.{Judges}
 use Rattle.policy_machine.specs.Step.{keeps_load, refusal_leaves}
-use Rattle.policy_machine.specs.Volatile.{Volatile, with_offer_dropped, without_load}
+use Rattle.policy_machine.specs.State.{Volatile, with_offer_dropped, without_load}
 use Rattle.policy_machine.specs.declared.channels.TheConstants.{CHANNELS}
 use Rattle.policy_machine.specs.declared.rule.Rule.{Rule}
 use Rattle.policy_slots.specs.LiveEnds.{live_without_load}
 use Rattle.policy_slots.specs.declared.live.Live.{Live}
-use Rattle.card_core.specs.SecureChannels.{without_offer_held}
-use Rattle.card_core.specs.Kept.{Kept, KeptRepresents}
+use Rattle.card_core.specs.Kept.{without_offer_held, Kept, KeptRepresents}
 use Rattle.card_core.specs.Serves.{CarriesOut, CarriesOutBut, LoadsBy, live_refused, refused_at}
 use Rattle.card_core.specs.Loading.{RepresentsLoading}
 use Rattle.card_types.specs.declared.tables.Tables.{Tables}

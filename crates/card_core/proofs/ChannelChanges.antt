@@ -5,10 +5,8 @@ use Rattle.std.specs.Option.{option_map}
 use Rattle.std.proofs.lemmas.List.{set-get_or}
 use Rattle.apdu_core.specs.Apdu.{Apdu}
 use Rattle.card_types.proofs.Domains.{domain_aid_is, domain_named_is_used}
-use Rattle.card_types.specs.Layout.{HasIssuer, HasLayout}
+use Rattle.card_types.specs.Represents.{HasIssuer, HasLayout, Represents, held}
 use Rattle.card_types.specs.Registry.{Registry}
-use Rattle.card_types.specs.Represents.{Represents}
-use Rattle.card_types.specs.Slots.{held}
 use Rattle.card_types.specs.Well.{IsDomainNamed, Well}
 use Rattle.card_types.specs.declared.factory.TheConstants.{ISSUER}
 use Rattle.card_types.specs.declared.tables.Entry.{Entry}
@@ -19,18 +17,15 @@ use Rattle.policy_machine.specs.Admission.{channel_passed, without_place, sessio
 use Rattle.policy_machine.specs.Classes.{channel_of}
 use Rattle.policy_machine.specs.ManageChannel.{lowest_closed}
 use Rattle.policy_machine.specs.Sound.{IsSound, IsWellLoad}
-use Rattle.policy_machine.specs.State.{State}
-use Rattle.policy_machine.specs.Volatile.{Channel, LoadSession, Nothing, Offered, Secured, SecureChannel, Volatile, channel_at, fresh, load_without_channel, place_in, secure_channel_of, channel_with, with_channel, with_offer_dropped, with_secure_channel, without_load, without_offer}
+use Rattle.policy_machine.specs.State.{State, Channel, LoadSession, Nothing, Offered, Secured, SecureChannel, Volatile, channel_at, fresh, load_without_channel, place_in, secure_channel_of, channel_with, with_channel, with_offer_dropped, with_secure_channel, without_load, without_offer}
 use Rattle.policy_machine.specs.declared.instruction.TheConstants.{LOAD}
 use Rattle.policy_machine.specs.declared.channels.TheConstants.{CHANNELS}
-use Rattle.policy_slots.specs.KeptPlaces.{place_of}
+use Rattle.policy_slots.specs.StateShown.{place_of, IsLoadNamed, IsSelectedIn, RepresentsState}
 use Rattle.policy_slots.specs.LiveEnds.{kept_of_others, live_with_channel, live_without_load, live_without_place}
-use Rattle.policy_slots.specs.StateShown.{IsLoadNamed, IsSelectedIn, RepresentsState}
 use Rattle.policy_slots.specs.declared.live.Live.{Live}
 use Rattle.policy_slots.specs.declared.live.LoadName.{LoadName}
 use Rattle.policy_slots.specs.declared.live.Place.{Place as KeptPlace}
-use Rattle.card_core.specs.SecureChannels.{RepresentsSecureChannel, held_passed, without_offer_held}
-use Rattle.card_core.specs.Kept.{Kept, KeptRepresents}
+use Rattle.card_core.specs.Kept.{RepresentsSecureChannel, held_passed, without_offer_held, Kept, KeptRepresents}
 use Rattle.card_core.specs.Manages.{KeepsAid, KeepsSelected}
 use Rattle.card_core.specs.Serves.{live_passed}
 use Rattle.card_core.specs.declared.channel_session.ChannelSession.{ChannelSession}

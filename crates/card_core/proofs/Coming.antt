@@ -16,10 +16,9 @@ use Rattle.scp03_card.specs.Session.{Session}
 use Rattle.policy_machine.proofs.Passing.{channel_is_low}
 use Rattle.policy_machine.specs.Admission.{Admitted, GeneralFails, admitted_as, class_passed, command_rules, in_plain}
 use Rattle.policy_machine.specs.Classes.{IsKnown, IsPlainManagement, channel_of, class_of, is_protected, managing}
-use Rattle.policy_machine.specs.FirstFailing.{IsFirst}
-use Rattle.policy_machine.specs.State.{State}
+use Rattle.policy_machine.specs.Refusal.{IsFirst}
+use Rattle.policy_machine.specs.State.{State, Secured, SecureChannel, channel_at, secure_channel_of}
 use Rattle.policy_machine.specs.Step.{sent}
-use Rattle.policy_machine.specs.Volatile.{Secured, SecureChannel, channel_at, secure_channel_of}
 use Rattle.policy_machine.specs.declared.instruction.TheConstants.{EXTERNAL_AUTHENTICATE, GET_DATA, GET_STATUS}
 use Rattle.policy_machine.specs.declared.channels.TheConstants.{CHANNELS}
 use Rattle.policy_machine.specs.declared.rule.Rule.{Rule}
@@ -32,10 +31,9 @@ use Rattle.policy_slots.specs.declared.live.Place.{Place}
 use Rattle.card_core.proofs.LoadsKept.{admitted_loading}
 use Rattle.card_core.proofs.Passed.{goes_on, holds_passed, managed_served, opened_so, opened_stands, over_served, passed_held, place_told, plain_stands, read_at, refused_served, session_of, written_at}
 use Rattle.card_core.proofs.Serving.{admits_opened, admits_plain, carried_out, protected_one}
-use Rattle.card_core.specs.Kept.{Kept, RepresentsSoundly, kept_of}
+use Rattle.card_core.specs.Kept.{Kept, RepresentsSoundly, kept_of, IsInSession, RepresentsSecureChannel, held_on, held_passed}
 use Rattle.card_core.specs.Loading.{RepresentsAll, RepresentsLoading, with_due}
 use Rattle.card_core.specs.Passes.{Bars, HasCome, IsOpenedIn, Passes, plain_of}
-use Rattle.card_core.specs.SecureChannels.{IsInSession, RepresentsSecureChannel, held_on, held_passed}
 use Rattle.card_core.specs.Secured.{OpensAs}
 use Rattle.card_core.specs.Serves.{CarriesOutLoading, ForPassed, IsPassed, IsPassedOver, IsTerminatedFor, Serves, ServesLoading, live_passed, rule_of, status_word}
 use Rattle.card_core.specs.declared.admit.Received.{Received}

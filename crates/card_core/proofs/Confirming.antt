@@ -7,8 +7,7 @@ use Rattle.card_types.proofs.ObjectNames.{object_in_slot, object_unnamed}
 use Rattle.card_types.proofs.SetNames.{has_from_held, has_key_named}
 use Rattle.card_types.specs.Registry.{Registry, object_named}
 use Rattle.card_types.specs.RegistryChange.{with_receipts}
-use Rattle.card_types.specs.Represents.{Represents, domain_aid, entry_of, key_of, object_of}
-use Rattle.card_types.specs.Slots.{held}
+use Rattle.card_types.specs.Represents.{Represents, domain_aid, entry_of, key_of, object_of, held}
 use Rattle.card_types.specs.declared.factory.TheConstants.{ISSUER}
 use Rattle.card_types.specs.declared.limits.TheConstants.{RECEIPT_LIMIT}
 use Rattle.card_types.specs.declared.tables.Entry.{Entry}

@@ -4,9 +4,8 @@ use Rattle.std.specs.Prelude.{slice_set}
 use Rattle.card_types.proofs.DrawnCounter.{drawn_next, drawn_says, drawn_well}
 use Rattle.card_types.specs.Counters.{HasNextCounter, raised, raised_key}
 use Rattle.card_types.specs.Registry.{Registry}
-use Rattle.card_types.specs.Represents.{Represents, domain_aid, keeps_counter}
+use Rattle.card_types.specs.Represents.{Represents, domain_aid, keeps_counter, held}
 use Rattle.card_types.specs.SlotChange.{SetsKey}
-use Rattle.card_types.specs.Slots.{held}
 use Rattle.card_types.specs.Well.{Well}
 use Rattle.card_types.specs.declared.limits.TheConstants.{COUNTER_LIMIT}
 use Rattle.card_types.specs.declared.tables.KeyRec.{KeyRec}

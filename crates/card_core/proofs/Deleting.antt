@@ -6,11 +6,9 @@ use Rattle.card_check.proofs.CardNames.{file_aid_is}
 use Rattle.card_types.proofs.Domains.{loaded_file_is_used}
 use Rattle.card_types.proofs.EntryNames.{entry_in_slot}
 use Rattle.card_types.specs.KeySets.{HasKey, IsKeyOf}
-use Rattle.card_types.specs.Layout.{HasIssuer}
+use Rattle.card_types.specs.Represents.{HasIssuer, Represents, entry_of, file_aid, held}
 use Rattle.card_types.specs.Registry as registry
 use Rattle.card_types.specs.Registry.{entry_named}
-use Rattle.card_types.specs.Represents.{Represents, entry_of, file_aid}
-use Rattle.card_types.specs.Slots.{held}
 use Rattle.card_types.specs.Well.{IsIssuerDomain, Well}
 use Rattle.card_types.specs.declared.factory.TheConstants.{FACTORY_FILE, ISSUER}
 use Rattle.card_types.specs.declared.found.Found.{Found}
@@ -23,7 +21,7 @@ use Rattle.card_types.specs.declared.tables.TheConstants.{ISSUER_SLOT}
 use Rattle.policy_machine.specs.Admission.{Admitted}
 use Rattle.content_rules.proofs.ReceipterKept.{receipter_has_others}
 use Rattle.content_rules.specs.DeleteObjectFound.{IsAlone, IsRemovable, IsToGoIn, IsUnselected}
-use Rattle.policy_slots.specs.Acting.{ActsIn}
+use Rattle.policy_slots.specs.StateShown.{ActsIn}
 use Rattle.policy_slots.specs.HoldersFound.{IsReceipterIn, MayReceipt}
 use Rattle.policy_slots.specs.declared.live.Live.{Live}
 use Rattle.policy_slots.specs.declared.live.LoadName.{LoadName}

@@ -9,11 +9,9 @@ use Rattle.std.proofs.lemmas.List.Elements.{All-cons, All-head, All-tail}
 use Rattle.card_check.specs.IsCard.{IsInLoadPages, pages_named}
 use Rattle.card_types.proofs.DrawnCounter.{held_within}
 use Rattle.card_types.specs.KeySets.{HasKey}
-use Rattle.card_types.specs.Layout.{HasIssuer}
+use Rattle.card_types.specs.Represents.{HasIssuer, Represents, used, held}
 use Rattle.card_types.specs.Registry.{Registry}
-use Rattle.card_types.specs.Represents.{Represents, used}
 use Rattle.card_types.specs.SlotChange.{SetsEntry}
-use Rattle.card_types.specs.Slots.{held}
 use Rattle.card_types.specs.Well.{Well}
 use Rattle.card_types.specs.declared.factory.TheConstants.{ISSUER}
 use Rattle.card_types.specs.declared.found.Found.{Found}

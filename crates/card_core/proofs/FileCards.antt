@@ -18,11 +18,9 @@ use Rattle.card_types.proofs.ChangedSlot.{set_shown}
 use Rattle.card_types.proofs.FoundNames.{none_found_none_named}
 use Rattle.card_types.proofs.Room.{file_room}
 use Rattle.card_types.specs.Aid.{IsAid}
-use Rattle.card_types.specs.Layout.{HasIssuer}
+use Rattle.card_types.specs.Represents.{HasIssuer, Represents, file_of, used, held}
 use Rattle.card_types.specs.Registry as registry
 use Rattle.card_types.specs.RegistryChange.{IsFileAdded}
-use Rattle.card_types.specs.Represents.{Represents, file_of, used}
-use Rattle.card_types.specs.Slots.{held}
 use Rattle.card_types.specs.Well.{Well, pages_of}
 use Rattle.card_types.specs.declared.factory.TheConstants.{FACTORY_FILE}
 use Rattle.card_types.specs.declared.limits.TheConstants.{LOAD_PAGES}

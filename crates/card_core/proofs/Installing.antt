@@ -9,7 +9,7 @@ use Rattle.policy_machine.specs.Admission.{Admitted}
 use Rattle.policy_machine.specs.InstallApplication.{entry_made}
 use Rattle.content_rules.specs.InstallApplicationRequests.{IsInstallOf}
 use Rattle.content_rules.specs.declared.install_application.InstallRequest.{InstallRequest}
-use Rattle.policy_slots.specs.Acting.{ActsIn}
+use Rattle.policy_slots.specs.StateShown.{ActsIn}
 use Rattle.card_core.specs.Installs.{slot_made}
 
 pub made_named : (page : ℕ → List ℕ) (tables : Tables) (domain : ℕ) (admitted : Admitted) → ActsIn page tables domain admitted → (request : InstallRequest)

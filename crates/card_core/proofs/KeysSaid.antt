@@ -2,12 +2,11 @@
 use Rattle.std.proofs.Common.{◌≡◌, ℕ, List, length, ap, ◌∙◌}
 use Rattle.std.specs.Prelude.{Option, filter, map}
 use Rattle.std.specs.List.Sorted.{IsPermutation, IsStrictlySortedBy}
-use Rattle.card_types.specs.Ascending.{counter_order, key_order}
-use Rattle.card_types.specs.Registry.{Counter, Key, Registry}
+use Rattle.card_types.specs.Registry.{counter_order, key_order, Counter, Key, Registry}
 use Rattle.card_types.specs.Represents.{Represents, counter_of, keeps_counter, key_of, used}
 use Rattle.card_types.specs.Well.{Well}
 use Rattle.card_types.specs.declared.tables.Object.{Object}
-use Rattle.policy_machine.specs.KeyVersions.{with_keys}
+use Rattle.policy_machine.specs.KeySets.{with_keys}
 use Rattle.rec_store.specs.Contents.{Contents}
 use Rattle.rec_store.specs.Keeper.{SameElse}
 use Rattle.card_core.proofs.Cards.{cards_after}

@@ -9,17 +9,15 @@ use Rattle.rec_store.specs.Contents.{Contents}
 use Rattle.card_core.specs.declared.loading.Loading.{Loading}
 use Rattle.policy_machine.proofs.OneOutcome.{does_one}
 use Rattle.policy_machine.specs.Admission.{Admitted}
-use Rattle.policy_machine.specs.State.{Effect}
-use Rattle.policy_machine.specs.Volatile.{Channel, secure_channel_of}
+use Rattle.policy_machine.specs.State.{Effect, Channel, secure_channel_of}
 use Rattle.policy_machine.specs.declared.channels.TheConstants.{CHANNELS}
 use Rattle.policy_machine.specs.declared.rule.Rule.{Rule}
 use Rattle.policy_slots.specs.declared.live.Live.{Live}
 use Rattle.card_core.proofs.Carrying.{refusal_shows}
 use Rattle.card_core.proofs.ChannelChanges.{HasFour}
-use Rattle.card_core.specs.Kept.{KeptRepresents, RepresentsSoundly, kept_of}
+use Rattle.card_core.specs.Kept.{KeptRepresents, RepresentsSoundly, kept_of, RepresentsSecureChannel, held_on}
 use Rattle.card_core.specs.Loading.{RepresentsLoading}
 use Rattle.card_core.specs.Loads.{LoadsAs}
-use Rattle.card_core.specs.SecureChannels.{RepresentsSecureChannel, held_on}
 use Rattle.card_core.specs.Serves.{CarriesOn, CarriesOutBut, LoadsBy}
 use Rattle.card_core.specs.declared.channel_session.ChannelSession.{ChannelSession}
 

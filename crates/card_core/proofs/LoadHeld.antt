@@ -5,7 +5,7 @@ use Rattle.card_check.specs.IsCard.{HasPages}
 use Rattle.card_types.proofs.Domains.{domain_named_is_used}
 use Rattle.card_types.proofs.FoundNames.{found_entry_named, found_file_named}
 use Rattle.card_types.proofs.Room.{no_file_room}
-use Rattle.card_types.specs.First.{NoneFree}
+use Rattle.card_types.specs.Search.{NoneFree}
 use Rattle.card_types.specs.Registry.{entry_named, file_named}
 use Rattle.card_types.specs.Well.{IsDomainNamed, pages_of}
 use Rattle.card_types.specs.declared.found.Found.TheVariants as found
@@ -20,7 +20,7 @@ use Rattle.load_session.specs.declared.session.LoadSession.{LoadSession as Kept}
 use Rattle.policy_machine.proofs.LoadBlocksBrought.{some_announced}
 use Rattle.policy_machine.specs.LoadBlocks.{Block, BringsBytes, with_block}
 use Rattle.policy_machine.specs.Sound.{IsWellLoad}
-use Rattle.policy_machine.specs.Volatile.{LoadSession}
+use Rattle.policy_machine.specs.State.{LoadSession}
 use Rattle.content_rules.specs.declared.load.LoadRequest.{LoadRequest}
 use Rattle.policy_slots.specs.StateShown.{IsLoadNamed}
 use Rattle.policy_slots.specs.declared.live.Live.{Live}

@@ -11,7 +11,7 @@ use Rattle.load_session.specs.declared.block.BlockStop.TheVariants.{FirstBlock, 
 use Rattle.load_session.specs.declared.block.Taken.{Taken}
 use Rattle.load_session.specs.declared.session.LoadSession.{LoadSession as Kept}
 use Rattle.policy_machine.specs.Admission.{Admitted}
-use Rattle.policy_machine.specs.FirstFailing.{IsFirst}
+use Rattle.policy_machine.specs.Refusal.{IsFirst}
 use Rattle.policy_machine.specs.Load.{LoadFails, LoadParameters, block_of, front_rules, last_rules, load_rules}
 use Rattle.policy_machine.specs.LoadBlocks.{Block, HasNoRoom, HasOtherCount, HasOtherHash}
 use Rattle.policy_machine.specs.Sound.{IsSound}
@@ -22,8 +22,7 @@ use Rattle.content_rules.proofs.LoadNamed.{IsNamedOn, named_on_channel}
 use Rattle.content_rules.specs.LoadFound.{IsForLast}
 use Rattle.content_rules.specs.LoadRequests.{IsLoadOf}
 use Rattle.content_rules.specs.declared.load.LoadRequest.{LoadRequest}
-use Rattle.policy_slots.specs.Acting.{ActsIn}
-use Rattle.policy_slots.specs.StateShown.{IsLoadNamed, RepresentsState}
+use Rattle.policy_slots.specs.StateShown.{ActsIn, IsLoadNamed, RepresentsState}
 use Rattle.policy_slots.specs.declared.live.Live.{Live}
 use Rattle.policy_slots.specs.declared.live.LoadName.{LoadName}
 use Rattle.card_core.specs.Loading.{RepresentsLoading}

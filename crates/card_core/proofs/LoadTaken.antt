@@ -20,18 +20,16 @@ use Rattle.policy_machine.proofs.Judging.{IsListed, does_so, judged}
 use Rattle.policy_machine.specs.Admission.{Admitted}
 use Rattle.policy_machine.specs.Commands.{HasEffect, TakesCommand}
 use Rattle.policy_machine.specs.Delegation.{Holds, IsAnswered, unconfirmed}
-use Rattle.policy_machine.specs.FirstFailing.{IsFirst}
+use Rattle.policy_machine.specs.Refusal.{IsFirst}
 use Rattle.policy_machine.specs.Load.{EndsLoad, GoesOn, LoadFails, block_of, file_of_load, load_rules, loading}
 use Rattle.policy_machine.specs.LoadBlocks.{Block, BringsBytes, with_block}
-use Rattle.policy_machine.specs.State.{Effect, State}
-use Rattle.policy_machine.specs.Volatile.{LoadSession, Volatile, load_without_channel, without_load}
+use Rattle.policy_machine.specs.State.{Effect, State, LoadSession, Volatile, load_without_channel, without_load}
 use Rattle.policy_machine.specs.declared.rule.Rule.{Rule}
 use Rattle.content_rules.proofs.LoadNamed.{counted_named}
 use Rattle.content_rules.specs.declared.load.LoadRequest.{LoadRequest}
-use Rattle.policy_slots.specs.Acting.{ActsIn}
+use Rattle.policy_slots.specs.StateShown.{ActsIn, IsLoadNamed, RepresentsState}
 use Rattle.policy_slots.specs.HoldersFound.{FindsConfirmer}
 use Rattle.policy_slots.specs.LiveEnds.{live_with_block, live_without_load}
-use Rattle.policy_slots.specs.StateShown.{IsLoadNamed, RepresentsState}
 use Rattle.policy_slots.specs.declared.live.Live.{Live}
 use Rattle.policy_slots.specs.declared.live.LoadName.{LoadName}
 use Rattle.rec_store.specs.Reopens.{IsFree}

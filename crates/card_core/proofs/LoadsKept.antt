@@ -21,9 +21,8 @@ use Rattle.policy_machine.proofs.LoadsLeft.{loads_left}
 use Rattle.policy_machine.specs.Admission.{Admitted, admitted_as, class_passed, message_joined, session_passed}
 use Rattle.policy_machine.specs.Classes.{channel_of}
 use Rattle.policy_machine.specs.Sound.{IsSound, IsWellLoad}
-use Rattle.policy_machine.specs.State.{State}
+use Rattle.policy_machine.specs.State.{State, LoadSession, Volatile, load_without_channel, with_offer_dropped, without_load}
 use Rattle.policy_machine.specs.Step.{keeps_load, refusal_leaves}
-use Rattle.policy_machine.specs.Volatile.{LoadSession, Volatile, load_without_channel, with_offer_dropped, without_load}
 use Rattle.policy_machine.specs.declared.instruction.TheConstants.{INSTALL, LOAD}
 use Rattle.policy_machine.specs.declared.rule.Rule.{Rule}
 use Rattle.policy_rules.specs.Requests.{IsRequestOf}

@@ -12,10 +12,10 @@ use Rattle.policy_machine.specs.CommandForm.{CommandForm}
 use Rattle.policy_machine.specs.Commands.{Judges, TakesCommand}
 use Rattle.policy_machine.specs.Delegation.{IsAnswered, unconfirmed}
 use Rattle.policy_machine.specs.ExternalAuthenticate.{rules_before_form}
-use Rattle.policy_machine.specs.FirstFailing.{IsFirst}
+use Rattle.policy_machine.specs.Refusal.{IsFirst}
 use Rattle.policy_machine.specs.ManagedForm.{CommandAsks, ManagedForm, command_form}
 use Rattle.policy_machine.specs.declared.rule.Rule.{Rule}
-use Rattle.policy_slots.specs.Acting.{ActsIn}
+use Rattle.policy_slots.specs.StateShown.{ActsIn}
 use Rattle.policy_slots.specs.HoldersFound.{FindsConfirmer}
 use Rattle.card_core.proofs.Cards.{in_order}
 use Rattle.card_core.proofs.Confirming.{answered_so, finds_receipter}

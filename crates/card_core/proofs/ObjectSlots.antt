@@ -9,14 +9,13 @@ use Rattle.std.proofs.lemmas.List.Folds.{list_any_at}
 use Rattle.std.proofs.lemmas.List.Sorted.{length_permutation, list_any-IsPermutation}
 use Rattle.bertlv.specs.Spelling.{Element}
 use Rattle.card_types.proofs.ChangedSlot.{set_shown}
-use Rattle.card_types.specs.Least.{NoneFits}
-use Rattle.card_types.specs.Represents.{used}
-use Rattle.card_types.specs.Slots.{held}
+use Rattle.card_types.specs.Search.{NoneFits}
+use Rattle.card_types.specs.Represents.{used, held}
 use Rattle.card_types.specs.declared.limits.TheConstants.{OBJECTS}
 use Rattle.card_types.specs.declared.tables.Object.{Object}
 use Rattle.key_rules.proofs.Stays.{any_used}
 use Rattle.policy_machine.proofs.NewTags.{count_if, first_new, with_tag}
-use Rattle.policy_machine.specs.ObjectsFound.{has_tag_in, new_tags}
+use Rattle.policy_machine.specs.DataObjects.{has_tag_in, new_tags}
 use Rattle.policy_slots.specs.ObjectsHeld.{has_object_in, is_tagged_in}
 use Rattle.card_core.specs.ObjectsPut.{IsSlotFor, object_with}
 

@@ -11,12 +11,11 @@ use Rattle.card_types.proofs.ChangedKeys.{object_changed}
 use Rattle.card_types.proofs.Domains.{domain_aid_is}
 use Rattle.card_types.proofs.EntryNames.{entry_in_slot}
 use Rattle.card_types.proofs.ObjectNames.{object_in_slot}
-use Rattle.card_types.specs.Ascending.{object_order}
-use Rattle.card_types.specs.Changed.{IsChanged}
+use Rattle.card_types.specs.Registry.{object_order}
+use Rattle.card_types.specs.RegistryChange.{IsChanged}
 use Rattle.card_types.specs.Registry as registry
-use Rattle.card_types.specs.Represents.{Represents, domain_aid, object_of, used}
+use Rattle.card_types.specs.Represents.{Represents, domain_aid, object_of, used, held}
 use Rattle.card_types.specs.SlotChange.{SetsObject}
-use Rattle.card_types.specs.Slots.{held}
 use Rattle.card_types.specs.Well.{IsDomainNamed, IsObject, IsWellObject, Well}
 use Rattle.card_types.specs.declared.limits.TheConstants.{OBJECTS}
 use Rattle.card_types.specs.declared.tables.Entry.{Entry}
@@ -26,9 +25,8 @@ use Rattle.policy_machine.proofs.ObjectStored.{none_there, object_from, one_stor
 use Rattle.policy_machine.proofs.DataWell.{data_well}
 use Rattle.policy_slots.proofs.ObjectsNamed.{has_alike}
 use Rattle.policy_machine.specs.Arranged.{IsArranged}
-use Rattle.policy_machine.specs.ObjectsFound.{new_tags}
+use Rattle.policy_machine.specs.DataObjects.{new_tags, is_object_of, with_data, with_object, with_objects}
 use Rattle.policy_slots.specs.ObjectsHeld.{has_object_in, is_tagged_in}
-use Rattle.policy_machine.specs.DataObjects.{is_object_of, with_data, with_object, with_objects}
 use Rattle.card_core.proofs.ObjectSlots.{room_after}
 use Rattle.card_core.specs.Domains.{is_domain_held, is_domain_in}
 use Rattle.card_types.specs.declared.tables.KeyRec.{KeyRec}

@@ -12,16 +12,15 @@ use Rattle.policy_machine.proofs.Passing.{admitted_fits, channel_is_low, class_f
 use Rattle.policy_machine.proofs.SecureChannelSet.{unloaded}
 use Rattle.policy_machine.specs.Admission.{GeneralFails, IsTaken, admitted_as, class_passed, command_rules, without_place, session_for}
 use Rattle.policy_machine.specs.Classes.{IsKnown, IsPlainManagement, channel_of, class_of, is_protected, protects}
-use Rattle.policy_machine.specs.FirstFailing.{IsFirst}
+use Rattle.policy_machine.specs.Refusal.{IsFirst}
 use Rattle.policy_rules.specs.GetStatusRequests.{IsPlaceBefore}
-use Rattle.policy_slots.specs.KeptPlaces.{place_of}
+use Rattle.policy_slots.specs.StateShown.{place_of}
 use Rattle.policy_slots.specs.LiveEnds.{live_without_load, live_without_place}
 use Rattle.policy_slots.specs.declared.live.Place.{Place}
 use Rattle.std.specs.Option.{option_map}
 use Rattle.policy_machine.specs.Rules.{status_of}
 use Rattle.policy_machine.specs.Sound.{IsSound}
-use Rattle.policy_machine.specs.State.{State}
-use Rattle.policy_machine.specs.Volatile.{LoadSession, Nothing, Secured, Volatile, channel_at, place_in, session_in, secure_channel_of, with_secure_channel, without_load, without_session}
+use Rattle.policy_machine.specs.State.{State, LoadSession, Nothing, Secured, Volatile, channel_at, place_in, session_in, secure_channel_of, with_secure_channel, without_load, without_session}
 use Rattle.policy_machine.specs.declared.class.Class.{Class}
 use Rattle.policy_machine.specs.declared.instruction.TheConstants.{EXTERNAL_AUTHENTICATE, LOAD}
 use Rattle.policy_machine.specs.declared.channels.TheConstants.{CHANNELS}
@@ -29,8 +28,7 @@ use Rattle.policy_machine.specs.declared.rule.Rule.TheVariants.{G}
 use Rattle.policy_machine.specs.declared.rule.RuleG.{RuleG}
 use Rattle.policy_machine.specs.declared.rule.RuleG.TheVariants.{G1, G2, G3, G4, G5, G6, G7, G8}
 use Rattle.policy_slots.specs.declared.live.Live.{Live}
-use Rattle.card_core.specs.SecureChannels.{RepresentsSecureChannel, IsInSession, held_passed, without_offer_held}
-use Rattle.card_core.specs.Kept.{KeptRepresents, RepresentsSoundly}
+use Rattle.card_core.specs.Kept.{RepresentsSecureChannel, IsInSession, held_passed, without_offer_held, KeptRepresents, RepresentsSoundly}
 use Rattle.card_core.specs.Secured.{OpensAs}
 use Rattle.card_core.specs.Serves.{IsTerminatedFor, Serves, live_passed}
 use Rattle.card_core.specs.declared.channel_session.ChannelSession.{ChannelSession}

@@ -7,13 +7,11 @@ use Rattle.card_types.specs.declared.tables.Entry.{Entry}
 use Rattle.card_types.specs.declared.tables.Tables.{Tables}
 use Rattle.policy_machine.specs.Admission.{Admitted}
 use Rattle.policy_machine.specs.GetStatus.{channel_at_place, with_place}
-use Rattle.policy_machine.specs.Volatile.{Channel, Place, channel_at, place_in, selected_of}
+use Rattle.policy_machine.specs.State.{Channel, Place, channel_at, place_in, selected_of}
 use Rattle.policy_machine.specs.declared.channels.TheConstants.{CHANNELS}
 use Rattle.policy_slots.proofs.ActingDomain.{acting_aid}
-use Rattle.policy_slots.specs.Acting.{ActsIn}
-use Rattle.policy_slots.specs.KeptPlaces.{place_of}
+use Rattle.policy_slots.specs.StateShown.{ActsIn, place_of, IsSelectedIn, RepresentsState}
 use Rattle.policy_slots.specs.LiveEnds.{live_with_place}
-use Rattle.policy_slots.specs.StateShown.{IsSelectedIn, RepresentsState}
 use Rattle.policy_slots.specs.declared.live.Live.{Live}
 use Rattle.policy_slots.specs.declared.live.Place.{Place as KeptPlace}
 use Rattle.card_core.proofs.SetAt.{same_at, set_at, set_each}

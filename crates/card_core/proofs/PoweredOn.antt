@@ -2,22 +2,18 @@
 use Rattle.std.proofs.Common.{◌≡◌, ℕ, zero, suc, ◌<◌, List, [], ◌∷◌, Option, None, refl, sym, subst, arith}
 use Rattle.std.specs.Prelude.{slice_index_or}
 use Rattle.std.specs.Option.{option_map}
-use Rattle.card_types.specs.Layout.{HasIssuer, HasLayout}
+use Rattle.card_types.specs.Represents.{HasIssuer, HasLayout, Represents as SaysRegistry}
 use Rattle.card_types.specs.Registry.{Registry}
-use Rattle.card_types.specs.Represents.{Represents as SaysRegistry}
 use Rattle.card_types.specs.Well.{Well}
 use Rattle.card_types.specs.declared.tables.Entry.{Entry}
 use Rattle.card_types.specs.declared.tables.Tables.{Tables}
 use Rattle.policy_machine.proofs.KeepsSound.{starts_sound}
-use Rattle.policy_machine.specs.State.{powered_on}
-use Rattle.policy_machine.specs.Volatile.{channel_at, first_volatile, place_in, secure_channel_of}
+use Rattle.policy_machine.specs.State.{powered_on, channel_at, first_volatile, place_in, secure_channel_of}
 use Rattle.policy_machine.specs.declared.channels.TheConstants.{CHANNELS}
-use Rattle.policy_slots.specs.KeptPlaces.{place_of}
+use Rattle.policy_slots.specs.StateShown.{place_of, IsSelectedIn, RepresentsState}
 use Rattle.policy_slots.specs.LiveEnds.{first_live}
-use Rattle.policy_slots.specs.StateShown.{IsSelectedIn, RepresentsState}
 use Rattle.policy_slots.specs.declared.live.Live.{Live}
-use Rattle.card_core.specs.SecureChannels.{RepresentsSecureChannel}
-use Rattle.card_core.specs.Kept.{RepresentsSoundly}
+use Rattle.card_core.specs.Kept.{RepresentsSecureChannel, RepresentsSoundly}
 use Rattle.card_core.specs.declared.channel_session.ChannelSession.{ChannelSession}
 use Rattle.card_core.specs.declared.channel_session.ChannelSession.TheVariants as held
 use Rattle.card_core.proofs.ChannelChanges.{issuer_selected}

@@ -6,7 +6,7 @@ use Rattle.policy_machine.proofs.PutKeyKeeps.{HaveLengths}
 use Rattle.policy_machine.specs.Admission.{Admitted}
 use Rattle.policy_machine.proofs.PutKeyOnce.{one_sent, opened_once, put_fails}
 use Rattle.policy_machine.specs.PutKey.{AreKeysSent, ChecksFit, HasFieldLengths, IsNewVersion, PutKeyParameters, SaysChecks, SentKey, key_count, AreOpened}
-use Rattle.policy_machine.specs.Volatile.{Nothing, Offered, Secured, SecureChannel, session_in, session_on}
+use Rattle.policy_machine.specs.State.{Nothing, Offered, Secured, SecureChannel, session_in, session_on}
 use Rattle.policy_rules.specs.Requests.{IsRequestOf, IsWellFormed, sent_key, sent_keys}
 use Rattle.policy_rules.specs.declared.put_key.PutKeys.{PutKeys}
 use Rattle.policy_rules.specs.declared.put_key.PutKeys.TheVariants.{One, Three}
@@ -14,7 +14,7 @@ use Rattle.policy_rules.specs.declared.put_key.SealedKey.{SealedKey}
 use Rattle.policy_rules.specs.declared.request.Request.TheVariants.{PutKey}
 use Rattle.scp03_card.specs.Kept.{KeptSession, RepresentsSession}
 use Rattle.scp03_card.specs.Session.{Session}
-use Rattle.card_core.specs.SecureChannels.{RepresentsSecureChannel}
+use Rattle.card_core.specs.Kept.{RepresentsSecureChannel}
 use Rattle.card_core.specs.Offers.{secure_channel_for}
 use Rattle.card_core.specs.declared.channel_session.ChannelSession.TheVariants as held
 use Rattle.policy_machine.specs.declared.put_key.RulePK.TheVariants.{PK3}

@@ -5,8 +5,7 @@ use Rattle.std.specs.List.{concat}
 use Rattle.std.proofs.lemmas.Bool.{and_from, and_parts}
 use Rattle.std.proofs.lemmas.List.{append-nil}
 use Rattle.apdu_core.specs.declared.reply.Status.{Status}
-use Rattle.card_types.specs.Ascending.{counter_order, key_order}
-use Rattle.card_types.specs.Registry.{Counter, Key}
+use Rattle.card_types.specs.Registry.{counter_order, key_order, Counter, Key}
 use Rattle.card_types.specs.Represents.{domain_aid}
 use Rattle.card_types.specs.declared.tables.Tables.{Tables}
 use Rattle.key_rules.specs.PutFails.{NoneHolds, PutFails}
@@ -18,12 +17,12 @@ use Rattle.policy_machine.specs.Admission.{Admitted}
 use Rattle.policy_machine.specs.Arranged.{IsArranged}
 use Rattle.policy_machine.specs.Commands.{Judges}
 use Rattle.policy_machine.specs.PutKey.{AreKeysPut, AreOpened, ChecksFit, SentKey, check_value, counters_from, keys_from, managed_put_key}
-use Rattle.policy_machine.specs.KeyVersions.{counters_but, keys_but, with_keys}
+use Rattle.policy_machine.specs.KeySets.{counters_but, keys_but, with_keys}
 use Rattle.policy_rules.proofs.PutKeyJudging.{none_holds}
 use Rattle.policy_rules.specs.Requests.{IsRequestOf, sent_keys}
 use Rattle.policy_rules.specs.declared.put_key.PutKeys.{PutKeys}
 use Rattle.policy_rules.specs.declared.request.Request.TheVariants.{PutKey}
-use Rattle.policy_slots.specs.Acting.{ActsIn}
+use Rattle.policy_slots.specs.StateShown.{ActsIn}
 use Rattle.card_core.proofs.PutKeyTables.{put_counters, put_keys, says_after, slot_keys}
 use Rattle.card_core.specs.Domains.{is_domain_in}
 use Rattle.card_core.specs.Manages.{IsManaged}

@@ -7,12 +7,11 @@ use Rattle.std.proofs.lemmas.List.{map-append}
 use Rattle.std.proofs.lemmas.List.Elements.{filter-append}
 use Rattle.std.proofs.lemmas.List.Sorted.{IsPermutation-append_right, IsPermutation-map, IsPermutation-trans}
 use Rattle.card_types.proofs.ChangedSlot.{same_all}
-use Rattle.card_types.specs.AidOrder.{same_aid}
-use Rattle.card_types.specs.Ascending.{counter_order, key_order}
+use Rattle.card_types.specs.Aid.{same_aid}
+use Rattle.card_types.specs.Registry.{counter_order, key_order}
 use Rattle.card_types.specs.Privileges.{has, security_domain}
 use Rattle.card_types.specs.Registry as registry
-use Rattle.card_types.specs.Represents.{Represents, counter_of, domain_aid, entry_of, file_of, keeps_counter, key_of, object_of, used}
-use Rattle.card_types.specs.Slots.{held}
+use Rattle.card_types.specs.Represents.{Represents, counter_of, domain_aid, entry_of, file_of, keeps_counter, key_of, object_of, used, held}
 use Rattle.card_types.specs.Well.{IsDomainNamed, Well}
 use Rattle.card_types.specs.declared.limits.TheConstants.{DOMAIN_KEYS, KEYS}
 use Rattle.card_types.specs.declared.tables.Entry.{Entry}
@@ -26,7 +25,7 @@ use Rattle.policy_machine.proofs.Filtered.{filter_same}
 use Rattle.policy_machine.proofs.KeysArranged.{counters_arranged, keys_arranged}
 use Rattle.policy_machine.proofs.PutKeyKeeps.{AreOfVersion, HaveLengths, new_keys_ascending, new_keys_well}
 use Rattle.policy_machine.specs.Arranged.{IsArranged}
-use Rattle.policy_machine.specs.KeyVersions.{counters_but, has_key_version, keys_but, with_keys}
+use Rattle.policy_machine.specs.KeySets.{counters_but, has_key_version, keys_but, with_keys}
 use Rattle.policy_machine.specs.PutKey.{counters_from, keys_from}
 use Rattle.policy_slots.proofs.KeyCounts.{own_count, stay_count}
 use Rattle.policy_slots.proofs.KeysByName.{counters_staying, has_version_by_name, keys_staying}

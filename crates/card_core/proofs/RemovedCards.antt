@@ -17,15 +17,13 @@ use Rattle.card_types.proofs.Members.{filtered}
 use Rattle.card_types.proofs.RemovedThing.{entry_removed_keeps, file_removed_keeps}
 use Rattle.card_types.proofs.SameAid.{same_aid_decides}
 use Rattle.card_types.proofs.Shows.{shows_used}
-use Rattle.card_types.specs.AidOrder.{same_aid}
+use Rattle.card_types.specs.Aid.{same_aid}
 use Rattle.card_types.specs.ChangeLaws.{IsOfCard, MayRemoveEntry}
 use Rattle.card_types.specs.Found.{aid_of}
-use Rattle.card_types.specs.Layout.{HasIssuer}
+use Rattle.card_types.specs.Represents.{HasIssuer, Represents, domain_aid, entry_of, file_aid, file_of, used, held}
 use Rattle.card_types.specs.Registry as registry
 use Rattle.card_types.specs.RegistryChange.{without_applications, without_entry, without_file}
-use Rattle.card_types.specs.Represents.{Represents, domain_aid, entry_of, file_aid, file_of, used}
 use Rattle.card_types.specs.SlotChange.{SetsFile}
-use Rattle.card_types.specs.Slots.{held}
 use Rattle.card_types.specs.Well.{Well}
 use Rattle.card_types.specs.declared.factory.TheConstants.{FACTORY_FILE, ISSUER}
 use Rattle.card_types.specs.declared.found.Found.TheVariants as Thing

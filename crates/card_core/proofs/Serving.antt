@@ -15,14 +15,13 @@ use Rattle.policy_machine.proofs.OneOutcome.{of_one}
 use Rattle.policy_machine.proofs.Opened.{managed_protected}
 use Rattle.policy_machine.specs.Admission.{Admits, Admitted, GeneralFails, InSession, GeneralRefusalLeaves, Of, admitted_as, command_rules, general_rules, session_for}
 use Rattle.policy_machine.specs.Classes.{IsKnown, IsPlainGetData, IsPlainManagement, class_of, instructions_of, is_protected, is_secure, managing, protects}
-use Rattle.policy_machine.specs.FirstFailing.{IsFirst}
+use Rattle.policy_machine.specs.Refusal.{IsFirst}
 use Rattle.policy_machine.specs.Commands.{IsBuilt}
 use Rattle.policy_machine.proofs.FirstUnique.{behind}
 use Rattle.policy_machine.specs.Rules.{status_of}
 use Rattle.policy_machine.specs.Sound.{IsSound}
-use Rattle.policy_machine.specs.State.{State}
+use Rattle.policy_machine.specs.State.{State, Volatile}
 use Rattle.policy_machine.specs.Step.{refusal_leaves, sent}
-use Rattle.policy_machine.specs.Volatile.{Volatile}
 use Rattle.policy_machine.specs.declared.class.Class.{Class}
 use Rattle.policy_machine.specs.declared.class.Class.TheVariants.{Interindustry, Plain, Secure}
 use Rattle.policy_machine.specs.declared.instruction.TheConstants.{GET_DATA, EXTERNAL_AUTHENTICATE}

@@ -7,16 +7,13 @@ use Rattle.card_types.proofs.EntryNames.{entry_in_slot}
 use Rattle.card_types.specs.ChangeLaws.{IsOfCard}
 use Rattle.card_types.specs.Privileges.{has, security_domain}
 use Rattle.card_types.specs.Registry as registry
-use Rattle.card_types.specs.Represents.{Represents, domain_aid}
-use Rattle.card_types.specs.Slots.{held}
+use Rattle.card_types.specs.Represents.{Represents, domain_aid, held}
 use Rattle.card_types.specs.Well.{IsDomainNamed, Well}
 use Rattle.card_types.specs.declared.tables.Entry.{Entry}
 use Rattle.card_types.specs.declared.tables.Tables.{Tables}
 use Rattle.policy_machine.specs.Admission.{Admitted}
-use Rattle.policy_machine.specs.State.{State}
-use Rattle.policy_machine.specs.Volatile.{LoadSession, fresh}
-use Rattle.policy_slots.specs.Acting.{ActsIn}
-use Rattle.policy_slots.specs.StateShown.{IsLoadNamed}
+use Rattle.policy_machine.specs.State.{State, LoadSession, fresh}
+use Rattle.policy_slots.specs.StateShown.{ActsIn, IsLoadNamed}
 use Rattle.policy_slots.specs.declared.live.LoadName.{LoadName}
 use Rattle.card_core.specs.Domains.{is_domain_held, is_domain_in}
 

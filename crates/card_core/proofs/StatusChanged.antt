@@ -9,16 +9,14 @@ use Rattle.card_types.specs.Found.{aid_of}
 use Rattle.card_types.specs.Registry as registry
 use Rattle.card_types.specs.Registry.{Registry, domain_of, entry_named}
 use Rattle.card_types.specs.RegistryChange.{with_life, with_locks}
-use Rattle.card_types.specs.Represents.{Represents, domain_aid}
-use Rattle.card_types.specs.Slots.{held}
+use Rattle.card_types.specs.Represents.{Represents, domain_aid, held}
 use Rattle.card_types.specs.Well.{Well}
 use Rattle.card_types.specs.declared.found.Found.TheVariants as found
 use Rattle.card_types.specs.declared.life.LifeMark.{LifeMark}
 use Rattle.card_types.specs.declared.tables.Entry.{Entry}
 use Rattle.card_types.specs.declared.tables.Tables.{Tables}
 use Rattle.domain_tree.proofs.AboveNamed.{above_in_slots, above_named}
-use Rattle.domain_tree.specs.Above.{Above}
-use Rattle.domain_tree.specs.AboveLaws.{IsAboveIn, IsTreeOf}
+use Rattle.domain_tree.specs.Above.{Above, IsAboveIn, IsTreeOf}
 use Rattle.policy_machine.specs.Admission.{Admitted}
 use Rattle.policy_machine.specs.EntryStatus.{IsEntryStep, OneIsSet, TreeIsSet}
 use Rattle.policy_rules.specs.SetStatusRequests.{IsChangeFor, slot_of}

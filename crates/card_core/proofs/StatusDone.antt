@@ -5,19 +5,16 @@ use Rattle.card_types.specs.declared.tables.Tables.{Tables}
 use Rattle.policy_machine.proofs.Judging.{does_so, judged}
 use Rattle.policy_machine.specs.Admission.{Admitted}
 use Rattle.policy_machine.specs.Commands.{HasEffect, Judges}
-use Rattle.policy_machine.specs.FirstFailing.{IsFirst}
+use Rattle.policy_machine.specs.Refusal.{IsFirst}
 use Rattle.policy_machine.specs.GetStatus.{GetStatusFails, IsLeftAt, Thing, get_status, get_status_rules, last_aid, part_limit, place_behind, with_place}
-use Rattle.policy_machine.specs.State.{Effect}
-use Rattle.policy_machine.specs.Volatile.{Volatile}
+use Rattle.policy_machine.specs.State.{Effect, Volatile}
 use Rattle.policy_machine.specs.declared.channels.TheConstants.{CHANNELS}
 use Rattle.policy_machine.specs.declared.rule.Rule.{Rule}
 use Rattle.policy_rules.specs.Requests.{IsRequestOf}
 use Rattle.policy_rules.specs.declared.get_status.ListRequest.{ListRequest}
 use Rattle.policy_rules.specs.declared.request.Request.TheVariants.{List as ListStatus}
-use Rattle.policy_slots.specs.Acting.{ActsIn}
-use Rattle.policy_slots.specs.KeptPlaces.{place_of}
+use Rattle.policy_slots.specs.StateShown.{ActsIn, place_of, RepresentsState}
 use Rattle.policy_slots.specs.LiveEnds.{live_with_place}
-use Rattle.policy_slots.specs.StateShown.{RepresentsState}
 use Rattle.policy_slots.specs.declared.live.Live.{Live}
 use Rattle.policy_slots.specs.declared.live.Place.{Place}
 use Rattle.card_core.proofs.PlaceSet.{placed_shows}

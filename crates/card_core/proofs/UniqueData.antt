@@ -3,8 +3,7 @@ use Rattle.std.proofs.Common.{◌≡◌, ◌⊎◌, inl, inr, ℕ, ◌≤◌, tr
 use Rattle.std.proofs.lemmas.Bool.{and_parts, eqb-true}
 use Rattle.std.proofs.lemmas.List.Elements.{All-contains}
 use Rattle.card_types.proofs.ObjectNames.{objects_shown}
-use Rattle.card_types.specs.InOrder.{IsInOrder}
-use Rattle.card_types.specs.Slots.{held}
+use Rattle.card_types.specs.Represents.{IsInOrder, held}
 use Rattle.card_types.specs.Well.{IsObject, IsWellObject}
 use Rattle.card_types.specs.declared.search.InSlot.{InSlot}
 use Rattle.card_types.specs.declared.tables.Object.{Object}

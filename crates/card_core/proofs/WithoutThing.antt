@@ -6,7 +6,7 @@ use Rattle.card_types.proofs.LeastOfList.{found_fits, none_found}
 use Rattle.card_types.proofs.SetMembers.{key_there}
 use Rattle.card_types.proofs.NamedThings.{unfound_kept}
 use Rattle.card_types.proofs.SameAid.{same_aid_decides}
-use Rattle.card_types.specs.AidOrder.{same_aid}
+use Rattle.card_types.specs.Aid.{same_aid}
 use Rattle.card_types.specs.Registry.{Counter, Entry, Key, LoadFile, Object, Registry, entry_named, file_named, is_domain}
 use Rattle.card_types.specs.RegistryChange.{without_applications, without_entry, without_file}
 use Rattle.card_types.specs.Well.{IsDomainNamed, IsWellCounter, IsWellEntry, IsWellFile, IsWellKey, IsWellObject, Well}

@@ -2,11 +2,9 @@
 -- 00.
 use Rattle.std.specs.Prelude.{◌≡◌, ◌⊎◌, ◌↔◌, ℕ, ◌++◌, List, [], Option, None, Some, IfSome}
 use Rattle.card_types.specs.KeySets.{HoldsKeyOf}
-use Rattle.card_types.specs.Layout.{HasIssuer}
-use Rattle.card_types.specs.Least.{NoneFits}
+use Rattle.card_types.specs.Represents.{HasIssuer, Represents, held}
+use Rattle.card_types.specs.Search.{NoneFits}
 use Rattle.card_types.specs.Registry.{Registry}
-use Rattle.card_types.specs.Represents.{Represents}
-use Rattle.card_types.specs.Slots.{held}
 use Rattle.card_types.specs.declared.tables.Entry.{Entry}
 use Rattle.card_types.specs.declared.tables.KeyRec.{KeyRec}
 use Rattle.card_types.specs.declared.tables.Object.{Object}
@@ -16,7 +14,7 @@ use Rattle.policy_machine.specs.Admission.{Admitted}
 use Rattle.policy_machine.specs.Delegation.{IsConfirmed, IsUnconfirmed, unconfirmed}
 use Rattle.policy_slots.specs.ObjectsHeld.{is_tagged_in}
 use Rattle.policy_machine.specs.State.{Effect}
-use Rattle.policy_slots.specs.Acting.{ActsIn}
+use Rattle.policy_slots.specs.StateShown.{ActsIn}
 use Rattle.policy_slots.specs.HoldersFound.{IsReceipterIn}
 use Rattle.tokens_receipts.specs.Receipt.{receipt}
 

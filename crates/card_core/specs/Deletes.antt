@@ -1,6 +1,6 @@
 -- For the code inside. What is left where a thing is removed, by slots.
 use Rattle.std.specs.Prelude.{◌≡◌, ℕ, List, Bool, Option, None, Some, map, slice_set}
-use Rattle.card_types.specs.Slots.{held}
+use Rattle.card_types.specs.Represents.{held}
 use Rattle.card_types.specs.declared.found.Found.{Found}
 use Rattle.card_types.specs.declared.tables.Tables.{Tables}
 use Rattle.content_rules.specs.DeleteObjectFound.{IsToGoIn}

@@ -17,7 +17,6 @@ pub mod Offers
 pub mod Passes
 pub mod PowerOn
 pub mod Ready
-pub mod SecureChannels
 pub mod Secured
 pub mod Serves
 pub mod ShownParts

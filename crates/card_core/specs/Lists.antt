@@ -6,8 +6,7 @@ use Rattle.card_types.specs.declared.tables.Tables.{Tables}
 use Rattle.policy_machine.specs.Admission.{Admitted}
 use Rattle.policy_machine.specs.Commands.{HasEffect, Judges}
 use Rattle.policy_machine.specs.GetStatus.{with_place}
-use Rattle.policy_machine.specs.State.{Effect}
-use Rattle.policy_machine.specs.Volatile.{Place, Volatile}
+use Rattle.policy_machine.specs.State.{Effect, Place, Volatile}
 use Rattle.policy_machine.specs.declared.rule.Rule.{Rule}
 use Rattle.policy_slots.specs.StateShown.{RepresentsState}
 use Rattle.policy_slots.specs.declared.live.Live.{Live}

@@ -6,7 +6,7 @@ use Rattle.card_types.specs.Represents.{domain_aid, file_of}
 use Rattle.card_types.specs.declared.tables.LoadFile.{LoadFile}
 use Rattle.card_types.specs.declared.tables.Tables.{Tables}
 use Rattle.policy_machine.specs.Admission.{Admitted}
-use Rattle.policy_slots.specs.Acting.{ActsIn}
+use Rattle.policy_slots.specs.StateShown.{ActsIn}
 use Rattle.policy_slots.specs.HoldersFound.{IsReceipterIn}
 use Rattle.card_core.specs.Confirms.{AnswersFor}
 

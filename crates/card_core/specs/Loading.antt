@@ -10,7 +10,7 @@ use Rattle.load_session.specs.Session.{RepresentsLoad}
 use Rattle.load_session.specs.declared.load_write.LoadWrite.{LoadWrite}
 use Rattle.load_session.specs.declared.session.LoadSession.{LoadSession}
 use Rattle.policy_machine.specs.State.{State}
-use Rattle.policy_machine.specs.Volatile as volatile
+use Rattle.policy_machine.specs.State as volatile
 use Rattle.rec_store.specs.Contents.{Contents}
 use Rattle.rec_store.specs.Reopens.{AreSpare, IsFree}
 use Rattle.card_core.specs.Kept.{Kept, RepresentsSoundly}

@@ -8,7 +8,7 @@ use Rattle.policy_machine.specs.Admission.{Admitted}
 use Rattle.policy_machine.specs.Commands.{HasEffect, Judges}
 use Rattle.load_session.specs.declared.block.BlockStop.{BlockStop}
 use Rattle.load_session.specs.declared.block.BlockStop.TheVariants.{FirstBlock, NoRoom, Count, Hash}
-use Rattle.policy_machine.specs.FirstFailing.{IsFirst}
+use Rattle.policy_machine.specs.Refusal.{IsFirst}
 use Rattle.policy_machine.specs.Load.{LoadFails, front_rules}
 use Rattle.policy_machine.specs.LoadBlocks.{Block}
 use Rattle.policy_machine.specs.declared.load.RuleLO.{RuleLO}
@@ -19,8 +19,7 @@ use Rattle.policy_machine.specs.declared.rule.Rule.{Rule}
 use Rattle.content_rules.specs.LoadFound.{IsForLoad}
 use Rattle.content_rules.specs.LoadRequests.{IsLoadOf}
 use Rattle.content_rules.specs.declared.load.LoadRequest.{LoadRequest}
-use Rattle.policy_slots.specs.Acting.{ActsIn, ForActingLive}
-use Rattle.policy_slots.specs.StateShown.{RepresentsState}
+use Rattle.policy_slots.specs.StateShown.{ActsIn, ForActingLive, RepresentsState}
 use Rattle.policy_slots.specs.declared.live.Live.{Live}
 use Rattle.policy_slots.specs.declared.live.LoadName.{LoadName}
 use Rattle.card_core.specs.Loading.{RepresentsLoading}

@@ -2,8 +2,7 @@
 -- hold.
 use Rattle.std.specs.Prelude.{◌≡◌, ℕ, ◌<◌, List, [], Option, Result, Ok, Err, None, Some, IfSome}
 use Rattle.apdu_core.specs.declared.reply.Status.{Status}
-use Rattle.card_types.specs.Represents.{Represents}
-use Rattle.card_types.specs.Slots.{held}
+use Rattle.card_types.specs.Represents.{Represents, held}
 use Rattle.card_types.specs.declared.tables.Entry.{Entry}
 use Rattle.card_types.specs.declared.tables.Tables.{Tables}
 use Rattle.policy_machine.specs.Admission.{Admitted}

@@ -1,7 +1,7 @@
 -- For the code inside. Data objects that are put in slots.
 use Rattle.std.specs.Prelude.{◌≡◌, ◌⊎◌, ℕ, ◌<◌, List, Option, None, Some, true, false}
 use Rattle.card_types.specs.SlotChange.{SetsObject}
-use Rattle.card_types.specs.Slots.{held}
+use Rattle.card_types.specs.Represents.{held}
 use Rattle.card_types.specs.declared.limits.TheConstants.{OBJECTS}
 use Rattle.card_types.specs.declared.tables.Object.{Object}
 use Rattle.card_types.specs.declared.tables.Tables.{Tables}

@@ -13,9 +13,9 @@ use Rattle.policy_machine.specs.Admission.{Admitted}
 use Rattle.policy_machine.specs.Commands.{Judges}
 use Rattle.policy_machine.specs.ExternalAuthenticate.{Answers}
 use Rattle.policy_machine.specs.InitializeUpdate.{AsksForSet, IsOfferOf, offer_body}
-use Rattle.policy_machine.specs.Volatile.{Offered, Secured, SecureChannel, channel_at, secure_channel_of}
+use Rattle.policy_machine.specs.State.{Offered, Secured, SecureChannel, channel_at, secure_channel_of}
 use Rattle.policy_machine.specs.declared.rule.Rule.{Rule}
-use Rattle.card_core.specs.SecureChannels.{RepresentsSecureChannel, without_offer_held}
+use Rattle.card_core.specs.Kept.{RepresentsSecureChannel, without_offer_held}
 use Rattle.card_core.specs.declared.channel_session.ChannelSession.{ChannelSession}
 
 -- what the command's channel holds

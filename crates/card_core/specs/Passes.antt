@@ -7,19 +7,17 @@ use Rattle.card_types.specs.declared.tables.Tables.{Tables}
 use Rattle.load_session.specs.declared.session.LoadSession.{LoadSession}
 use Rattle.policy_machine.specs.Admission.{Admits, GeneralFails, admitted_as, command_rules}
 use Rattle.policy_machine.specs.Classes.{channel_of}
-use Rattle.policy_machine.specs.FirstFailing.{IsFirst}
+use Rattle.policy_machine.specs.Refusal.{IsFirst}
 use Rattle.policy_machine.specs.Rules.{status_of}
-use Rattle.policy_machine.specs.State.{State}
-use Rattle.policy_machine.specs.Volatile.{Secured}
+use Rattle.policy_machine.specs.State.{State, Secured}
 use Rattle.policy_machine.specs.declared.channels.TheConstants.{CHANNELS}
 use Rattle.policy_machine.specs.declared.rule.Rule.TheVariants.{G}
 use Rattle.policy_machine.specs.declared.rule.RuleG.{RuleG}
 use Rattle.policy_slots.specs.LiveEnds.{live_without_place}
 use Rattle.policy_slots.specs.declared.live.Live.{Live}
 use Rattle.scp03_card.specs.Session.{Session}
-use Rattle.card_core.specs.Kept.{Kept, RepresentsSoundly, kept_of}
+use Rattle.card_core.specs.Kept.{Kept, RepresentsSoundly, kept_of, RepresentsSecureChannel, held_on}
 use Rattle.card_core.specs.Loading.{RepresentsLoading}
-use Rattle.card_core.specs.SecureChannels.{RepresentsSecureChannel, held_on}
 use Rattle.card_core.specs.Serves.{Serves}
 use Rattle.card_core.specs.declared.admit.Received.{Received}
 use Rattle.card_core.specs.declared.channel_session.ChannelSession.{ChannelSession}

@@ -6,8 +6,7 @@ use Rattle.policy_machine.specs.declared.channels.TheConstants.{CHANNELS}
 use Rattle.policy_slots.specs.declared.live.Live.{Live}
 use Rattle.rec_store.specs.Contents.{Contents}
 use Rattle.card_core.specs.Domains.{is_domain_in}
-use Rattle.card_core.specs.Kept.{AreCards}
-use Rattle.card_core.specs.SecureChannels.{IsInSession, held_on}
+use Rattle.card_core.specs.Kept.{AreCards, IsInSession, held_on}
 use Rattle.card_core.specs.declared.admit.Received.{Received}
 use Rattle.card_core.specs.declared.channel_session.ChannelSession.{ChannelSession}
 use Rattle.card_core.specs.declared.loading.Loading.{Loading}

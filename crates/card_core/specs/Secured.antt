@@ -2,10 +2,10 @@
 use Rattle.std.specs.Prelude.{◌≡◌, ℕ, List, Result, Ok, Err, None, MatchOption, take}
 use Rattle.apdu_core.specs.Apdu.{Apdu}
 use Rattle.scp03_card.specs.Opens.{Gives, IsAuthentic, Opens, accepting, field_of}
-use Rattle.policy_machine.specs.Volatile.{Secured, SecureChannel, session_in}
+use Rattle.policy_machine.specs.State.{Secured, SecureChannel, session_in}
 use Rattle.policy_machine.specs.declared.rule.RuleG.{RuleG}
 use Rattle.policy_machine.specs.declared.rule.RuleG.TheVariants.{G1, G2, G3, G4, G5, G6, G7, G8}
-use Rattle.card_core.specs.SecureChannels.{RepresentsSecureChannel}
+use Rattle.card_core.specs.Kept.{RepresentsSecureChannel}
 use Rattle.card_core.specs.declared.channel_session.ChannelSession.{ChannelSession}
 use Rattle.card_core.specs.declared.channel_session.ChannelSession.TheVariants as held
 

@@ -22,8 +22,7 @@ use Rattle.policy_rules.specs.declared.request.Request.TheVariants.{InstallLoad,
 use Rattle.policy_slots.specs.LiveEnds.{live_without_load}
 use Rattle.policy_slots.specs.declared.live.Live.{Live}
 use Rattle.policy_slots.specs.declared.live.Place.{Place}
-use Rattle.card_core.specs.SecureChannels.{held_on, without_offer_held}
-use Rattle.card_core.specs.Kept.{Kept, KeptRepresents}
+use Rattle.card_core.specs.Kept.{held_on, without_offer_held, Kept, KeptRepresents}
 use Rattle.card_core.specs.Loading.{RepresentsAll, RepresentsLoading, with_due}
 use Rattle.card_core.specs.declared.loading.Loading.{Loading}
 use Rattle.load_session.specs.declared.session.LoadSession.{LoadSession}

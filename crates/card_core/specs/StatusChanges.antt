@@ -5,7 +5,7 @@ use Rattle.card_types.specs.RegistryChange.{with_life, with_locks}
 use Rattle.card_types.specs.Represents.{Represents, domain_aid}
 use Rattle.card_types.specs.declared.tables.Entry.{Entry}
 use Rattle.card_types.specs.declared.tables.Tables.{Tables}
-use Rattle.domain_tree.specs.AboveLaws.{IsTreeOf}
+use Rattle.domain_tree.specs.Above.{IsTreeOf}
 use Rattle.policy_rules.specs.declared.entry_status.StatusChange.{StatusChange}
 use Rattle.policy_rules.specs.declared.entry_status.StatusChange.TheVariants.{One, Tree}
 use Rattle.rec_store.specs.Places.{entry_page}

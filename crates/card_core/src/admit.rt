@@ -6,7 +6,7 @@ ghost use Rattle.card_core.specs.Domains.{is_domain_in};
 ghost use Rattle.card_core.specs.Serves.{IsTerminatedFor};
 ghost use Rattle.policy_machine.specs.Admission.{GeneralFails, GeneralRefusalLeaves, command_rules, general_rules};
 ghost use Rattle.policy_machine.specs.Classes.{IsKnown, channel_of as channel_of_byte, class_of};
-ghost use Rattle.policy_machine.specs.FirstFailing.{IsFirst};
+ghost use Rattle.policy_machine.specs.Refusal.{IsFirst};
 ghost use Rattle.policy_machine.specs.State.{State};
 ghost use Rattle.policy_slots.specs.StateShown.{RepresentsState};
 

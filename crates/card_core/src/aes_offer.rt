@@ -1,7 +1,7 @@
 //! An offer under keys of any length (GlobalPlatform Amendment D, 7.1.1).
 
 ghost use Rattle.std.specs.Prelude.{◌≡◌, ◌≤◌, IfOk, IsOk, OnOk, length};
-ghost use Rattle.card_types.specs.NamedKeys.{HaveKeyLength};
+ghost use Rattle.card_types.specs.KeySets.{HaveKeyLength};
 ghost use Rattle.card_types.specs.declared.limits.TheConstants.{COUNTER_LIMIT};
 ghost use Rattle.scp03_card.specs.Kept.{RepresentsOffer, RepresentsSession};
 ghost use Rattle.scp03_card.specs.Offer as model;

@@ -2,10 +2,10 @@
 
 ghost use Rattle.std.specs.Prelude.{◌≡◌, ◌≤◌, [], OnErr, length};
 ghost use Rattle.card_core.specs.Loads.{LoadsAs};
-ghost use Rattle.card_types.specs.InOrder.{IsInOrder};
+ghost use Rattle.card_types.specs.Represents.{IsInOrder};
 ghost use Rattle.policy_rules.specs.Requests.{IsRequestOf, IsWellFormed};
 ghost use Rattle.policy_rules.specs.declared.request.Request.TheVariants.{InstallLoad};
-ghost use Rattle.policy_slots.specs.Acting.{ForActingLive};
+ghost use Rattle.policy_slots.specs.StateShown.{ForActingLive};
 ghost use Rattle.scp03_card.specs.declared.close.TheConstants.{DATA_LIMIT};
 
 use crate::loading::Loading;

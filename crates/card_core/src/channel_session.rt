@@ -1,7 +1,7 @@
 //! What an open channel holds besides its selection (GlobalPlatform Amendment D, chapter 5).
 
 ghost use Rattle.std.specs.Prelude.{◌≡◌, ◌↔◌, IsTrue};
-ghost use Rattle.card_core.specs.SecureChannels.{IsOffered, without_offer_held};
+ghost use Rattle.card_core.specs.Kept.{IsOffered, without_offer_held};
 ghost use Rattle.card_core.specs.declared.channel_session.ChannelSession.TheVariants as holding;
 
 use crate::aes_offer::AesOffer;

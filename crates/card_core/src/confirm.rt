@@ -6,7 +6,7 @@ ghost use Rattle.std.specs.Option.{option_copied};
 ghost use Rattle.card_core.specs.Confirms.{Confirms, IsReceiptIn, IsUniqueIn, IsValueIn};
 ghost use Rattle.card_core.specs.Kept.{AreCards};
 ghost use Rattle.card_core.specs.Manages.{KeepsAids};
-ghost use Rattle.card_types.specs.InOrder.{IsInOrder};
+ghost use Rattle.card_types.specs.Represents.{IsInOrder};
 ghost use Rattle.card_types.specs.KeySets.{HasKey};
 ghost use Rattle.card_types.specs.Well.{IsKeyLength};
 ghost use Rattle.policy_slots.specs.HoldersFound.{MayReceipt};

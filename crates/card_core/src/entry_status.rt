@@ -4,8 +4,7 @@
 ghost use Rattle.std.specs.Prelude.{◌≡◌, ℕ, List, [], true, IsSome};
 ghost use Rattle.card_core.specs.StatusChanges.{MakesChange, SaysChange, StagesOthers};
 ghost use Rattle.card_types.specs.Registry.{Registry};
-ghost use Rattle.card_types.specs.Represents.{Represents};
-ghost use Rattle.card_types.specs.Slots.{held};
+ghost use Rattle.card_types.specs.Represents.{Represents, held};
 ghost use Rattle.card_types.specs.Well.{Well};
 ghost use Rattle.domain_tree.specs.Slots.{IsFreeOfLoops};
 ghost use Rattle.policy_rules.specs.SetStatusRequests.{IsOther, slot_of};

@@ -1,7 +1,7 @@
 //! EXTERNAL AUTHENTICATE: an offer becomes a session (GlobalPlatform Amendment D, 7.1.2).
 
 ghost use Rattle.std.specs.Prelude.{◌≡◌, IfErr, OnOk};
-ghost use Rattle.card_core.specs.SecureChannels.{IsOffered};
+ghost use Rattle.card_core.specs.Kept.{IsOffered};
 ghost use Rattle.card_core.specs.Offers.{AnswersAs, HoldsFor};
 ghost use Rattle.policy_machine.specs.Admission.{Admitted};
 ghost use Rattle.policy_machine.specs.declared.external_authenticate.RuleEA.TheVariants.{EA1};

@@ -5,15 +5,14 @@ ghost use Rattle.card_core.specs.Lists.{Lists};
 ghost use Rattle.card_core.specs.Serves.{IsAsked};
 ghost use Rattle.card_core.specs.ShownParts.{IsPart};
 ghost use Rattle.card_types.specs.Found.{aid_of};
-ghost use Rattle.card_types.specs.InOrder.{IsInOrder};
+ghost use Rattle.card_types.specs.Represents.{IsInOrder};
 ghost use Rattle.card_types.specs.Registry.{Registry};
 ghost use Rattle.policy_machine.specs.Admission.{Admitted};
 ghost use Rattle.policy_machine.specs.GetStatus.{IsTemplate, Thing};
 ghost use Rattle.policy_rules.specs.GetStatusRequests.{IsFirstShown, IsListOf, IsThingAt};
 ghost use Rattle.policy_rules.specs.Requests.{IsWellFormed};
 ghost use Rattle.policy_rules.specs.declared.request.Request.TheVariants.{List as ListStatus};
-ghost use Rattle.policy_slots.specs.Acting.{ActsIn, ForActing};
-ghost use Rattle.policy_slots.specs.StateShown.{RepresentsState};
+ghost use Rattle.policy_slots.specs.StateShown.{ActsIn, ForActing, RepresentsState};
 ghost use Rattle.scp03_card.specs.declared.close.TheConstants.{DATA_LIMIT};
 
 use crate::reply::REPLY_LIMIT;

@@ -3,7 +3,7 @@
 ghost use Rattle.std.specs.Prelude.{◌≡◌, ◌≤◌, None, Some, true, IfErr, IfOk, IfSome, OnOk, length};
 ghost use Rattle.card_core.specs.Kept.{AreCards};
 ghost use Rattle.policy_machine.specs.ManagedForm.{JudgedFirst};
-ghost use Rattle.policy_slots.specs.Acting.{ForActing};
+ghost use Rattle.policy_slots.specs.StateShown.{ForActing};
 ghost use Rattle.policy_slots.specs.HoldersFound.{FindsConfirmer, MayReceipt};
 
 use flash_core::Flash;

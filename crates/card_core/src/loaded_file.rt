@@ -6,7 +6,7 @@ ghost use Rattle.card_core.specs.Domains.{is_domain_in};
 ghost use Rattle.card_core.specs.Kept.{AreCards};
 ghost use Rattle.card_core.specs.LoadedFile.{AddsLoaded};
 ghost use Rattle.card_core.specs.Manages.{KeepsAids};
-ghost use Rattle.card_types.specs.First.{NoneFree};
+ghost use Rattle.card_types.specs.Search.{NoneFree};
 ghost use Rattle.card_types.specs.Well.{pages_of};
 ghost use Rattle.card_types.specs.declared.limits.TheConstants.{LOAD_PAGES};
 ghost use Rattle.load_session.specs.Pages.{AreOwn, pages_in};

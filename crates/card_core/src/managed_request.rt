@@ -2,13 +2,12 @@
 
 ghost use Rattle.std.specs.Prelude.{◌≡◌, ◌≤◌, [], OnErr, length, true};
 ghost use Rattle.card_core.specs.Domains.{is_domain_in};
-ghost use Rattle.card_core.specs.Kept.{AreCards};
+ghost use Rattle.card_core.specs.Kept.{AreCards, IsInSession};
 ghost use Rattle.card_core.specs.Manages.{KeepsFree, KeepsSelected, Manages};
 ghost use Rattle.card_core.specs.Offers.{HoldsFor};
-ghost use Rattle.card_core.specs.SecureChannels.{IsInSession};
 ghost use Rattle.policy_rules.specs.Requests.{IsRequestOf, IsWellFormed};
 ghost use Rattle.policy_rules.specs.declared.request.Request.{Request};
-ghost use Rattle.policy_slots.specs.Acting.{ForActingLive};
+ghost use Rattle.policy_slots.specs.StateShown.{ForActingLive};
 ghost use Rattle.scp03_card.specs.declared.close.TheConstants.{DATA_LIMIT};
 
 use crate::channel_session::ChannelSession;

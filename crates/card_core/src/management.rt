@@ -3,8 +3,7 @@
 
 ghost use Rattle.std.specs.Prelude.{◌≡◌, ◌≢◌, ◌<◌, ◌≤◌, [], None, Some, Contains, Option, OnErr, length, slice_index_or, true};
 ghost use Rattle.card_core.specs.Domains.{is_domain_in};
-ghost use Rattle.card_core.specs.Kept.{AreCards, kept_of};
-ghost use Rattle.card_core.specs.SecureChannels.{IsInSession, held_on};
+ghost use Rattle.card_core.specs.Kept.{AreCards, kept_of, IsInSession, held_on};
 ghost use Rattle.card_core.specs.Serves.{AsksForLoad, CarriesOn, ForAsked};
 ghost use Rattle.load_session.specs.declared.session.LoadSession.{LoadSession};
 ghost use Rattle.policy_machine.specs.Classes.{changing, managing};

@@ -1,10 +1,9 @@
 //! What a request asks for is done (GlobalPlatform Card Specification 2.3.1, chapter 11).
 
 ghost use Rattle.std.specs.Prelude.{◌≡◌, ◌⊎◌, ◌≤◌, [], length, true, Contains, OnErr, option_copied};
-ghost use Rattle.card_core.specs.Kept.{AreCards, kept_of};
+ghost use Rattle.card_core.specs.Kept.{AreCards, kept_of, IsOffered, held_on};
 ghost use Rattle.card_core.specs.Loading.{AreFree, RepresentsSome, with_due};
 ghost use Rattle.card_core.specs.Ready.{IsReady};
-ghost use Rattle.card_core.specs.SecureChannels.{IsOffered, held_on};
 ghost use Rattle.card_core.specs.Serves.{CarriesOn, ForAsked};
 ghost use Rattle.policy_machine.specs.Classes.{changing, managing};
 ghost use Rattle.policy_machine.specs.declared.instruction.TheConstants.{EXTERNAL_AUTHENTICATE, GET_DATA, INITIALIZE_UPDATE};

@@ -3,7 +3,7 @@
 ghost use Rattle.std.specs.Prelude.{◌≡◌, IfErr, IfOk, OnOk, Some};
 ghost use Rattle.apdu_core.specs.Apdu.{apdu_of};
 ghost use Rattle.card_core.specs.Offers.{HoldsFor};
-ghost use Rattle.card_core.specs.SecureChannels.{IsOffered};
+ghost use Rattle.card_core.specs.Kept.{IsOffered};
 ghost use Rattle.policy_machine.specs.Admission.{Admitted};
 ghost use Rattle.policy_machine.specs.Commands.{IsBuilt, Judges};
 ghost use Rattle.policy_machine.specs.declared.instruction.TheConstants.{EXTERNAL_AUTHENTICATE};

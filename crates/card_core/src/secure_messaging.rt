@@ -3,9 +3,9 @@
 ghost use Rattle.std.specs.Prelude.{◌≡◌, ◌≤◌, length, IfOk, OnOk};
 ghost use Rattle.arrayvec.specs.ArrayVec.{array_vec_len};
 ghost use Rattle.apdu_core.specs.Apdu.{apdu_of};
-ghost use Rattle.card_core.specs.SecureChannels.{RepresentsSecureChannel, IsInSession};
+ghost use Rattle.card_core.specs.Kept.{RepresentsSecureChannel, IsInSession};
 ghost use Rattle.card_core.specs.Secured.{OpensAs};
-ghost use Rattle.policy_machine.specs.Volatile.{Secured, SecureChannel};
+ghost use Rattle.policy_machine.specs.State.{Secured, SecureChannel};
 ghost use Rattle.scp03_card.specs.Protected.{protected};
 ghost use Rattle.scp03_card.specs.Session.{Session};
 ghost use Rattle.scp03_card.specs.declared.close.TheConstants.{DATA_LIMIT};

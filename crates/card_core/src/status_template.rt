@@ -2,7 +2,7 @@
 
 ghost use Rattle.std.specs.Prelude.{◌≡◌, ◌+◌, ◌<◌, ◌≤◌, ◌++◌, ℕ, List, [], Some, IsSome, if◌then◌else◌, length};
 ghost use Rattle.bertlv.specs.Spelling.{AreElements, Element};
-ghost use Rattle.card_types.specs.AidOrder.{same_aid};
+ghost use Rattle.card_types.specs.Aid.{same_aid};
 ghost use Rattle.card_types.specs.CardLife.{card_life_code};
 ghost use Rattle.card_types.specs.Found.{aid_of};
 ghost use Rattle.card_types.specs.LifeMark.{life_mark_code};

@@ -10,8 +10,8 @@ use Rattle.card_types.proofs.LineChanges.{leads_below, leads_put}
 use Rattle.card_types.proofs.NamedThings.{beside_found, domain_leads, new_found, new_or_old, still_found}
 use Rattle.card_types.proofs.OthersWell.{all_owned, counters_well, keys_well, objects_well}
 use Rattle.card_types.proofs.SameAid.{same_aid_decides}
-use Rattle.card_types.specs.AidOrder.{aid_order, same_aid}
-use Rattle.card_types.specs.Changed.{IsPut}
+use Rattle.card_types.specs.Aid.{aid_order, same_aid}
+use Rattle.card_types.specs.RegistryChange.{IsPut}
 use Rattle.card_types.specs.ChangeLaws.{EntryAddedKeeps, FileAddedKeeps, IsOfCard, MayAddEntry, MayAddFile}
 use Rattle.card_types.specs.Registry.{Entry, LoadFile, Registry, domain_of, entry_named, file_named, is_domain}
 use Rattle.card_types.specs.Well.{IsFactoryFile, IsIssuerDomain, IsWellEntry, IsWellFile, LeadsToRoot, pages_of}

@@ -11,7 +11,7 @@ use Rattle.card_types.proofs.Members.{filtered}
 use Rattle.card_types.proofs.NamedThings.{aid_differs, kept_shorter, found_kept, member_named, sorted_kept, unfound_kept}
 use Rattle.card_types.proofs.OthersWell.{all_owned, counters_well, keys_well, objects_well}
 use Rattle.card_types.proofs.SameAid.{aid_same_itself, same_aid_decides}
-use Rattle.card_types.specs.AidOrder.{same_aid}
+use Rattle.card_types.specs.Aid.{same_aid}
 use Rattle.card_types.specs.ChangeLaws.{ApplicationsRemovedKeep, IsOfCard}
 use Rattle.card_types.specs.Registry.{Entry, LoadFile, Registry, domain_of, entry_named, is_domain}
 use Rattle.card_types.specs.RegistryChange.{without_applications}

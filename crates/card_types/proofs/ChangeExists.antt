@@ -11,7 +11,7 @@ use Rattle.std.specs.List.{cons_option}
 use Rattle.std.proofs.lemmas.List.Elements.{All-contains_itself, All-weaker, recursion_from_All}
 use Rattle.std.proofs.lemmas.List.Sorted.{Contains-permutation, IsPermutation-cons, IsPermutation-middle, IsPermutation-refl, IsPermutation-sym, IsPermutation-trans, length_permutation, sum_by-IsPermutation}
 use Rattle.std.proofs.lemmas.List.Sums.{sum_by-cons}
-use Rattle.card_types.specs.Changed.{IsChanged, IsPut, IsRemoved, IsReplaced}
+use Rattle.card_types.specs.RegistryChange.{IsChanged, IsPut, IsRemoved, IsReplaced}
 use Rattle.card_types.proofs.AtMostOnce.{counted, once_from_sorted, tie_at, without_first}
 use Rattle.card_types.proofs.LeastOfList.{first_below, others_sorted, tie}
 use Rattle.card_types.proofs.Members.{contains_cases, contains_first, contains_later}

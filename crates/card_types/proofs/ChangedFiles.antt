@@ -5,12 +5,11 @@ use Rattle.std.specs.Option.{option_map}
 use Rattle.std.proofs.lemmas.Bool.{cases_eq}
 use Rattle.std.proofs.lemmas.Cmp.{nat_list_cmp_total, on_total}
 use Rattle.std.proofs.lemmas.List.{get_or-set_other, get_or-set_same}
-use Rattle.card_types.specs.AidOrder.{aid_order}
-use Rattle.card_types.specs.Changed.{IsChanged}
+use Rattle.card_types.specs.Aid.{aid_order}
+use Rattle.card_types.specs.RegistryChange.{IsChanged}
 use Rattle.card_types.specs.Registry as registry
-use Rattle.card_types.specs.Represents.{Represents, counter_of, entry_of, file_aid, file_of, keeps_counter, key_of, object_of}
+use Rattle.card_types.specs.Represents.{Represents, counter_of, entry_of, file_aid, file_of, keeps_counter, key_of, object_of, held}
 use Rattle.card_types.specs.SlotChange.{SetsFile}
-use Rattle.card_types.specs.Slots.{held}
 use Rattle.card_types.specs.Well.{Well}
 use Rattle.card_types.specs.declared.tables.Entry.{Entry}
 use Rattle.card_types.specs.declared.tables.LoadFile.{LoadFile}

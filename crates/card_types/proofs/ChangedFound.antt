@@ -9,7 +9,7 @@ use Rattle.std.specs.declared.cmp.Ordering.TheVariants.{Equal}
 use Rattle.std.proofs.lemmas.List.Sorted.{Contains-permutation, IsPermutation-sym, sum_by-IsPermutation}
 use Rattle.std.proofs.lemmas.List.Sums.{sum_by-cons}
 use Rattle.std.proofs.lemmas.Cmp.{tied_itself}
-use Rattle.card_types.specs.Changed.{IsChanged, IsPut, IsRemoved, IsReplaced}
+use Rattle.card_types.specs.RegistryChange.{IsChanged, IsPut, IsRemoved, IsReplaced}
 use Rattle.card_types.proofs.AtMostOnce.{counted, once_from_sorted, tie_at, without_first}
 use Rattle.card_types.proofs.LeastOfList.{found_fits, found_least, least_found, none_fits, none_found, tie}
 use Rattle.card_types.proofs.Members.{contains_cases, contains_first, contains_later}

@@ -1,12 +1,11 @@
 -- What tables say after a change of one key or data object.
 use Rattle.std.proofs.Common.{ℕ, ◌<◌, List, length, Option, ◌∙◌}
 use Rattle.std.specs.Option.{option_map}
-use Rattle.card_types.specs.Ascending.{counter_order, key_order, object_order}
-use Rattle.card_types.specs.Changed.{IsChanged}
+use Rattle.card_types.specs.Registry.{counter_order, key_order, object_order}
+use Rattle.card_types.specs.RegistryChange.{IsChanged}
 use Rattle.card_types.specs.Registry as registry
-use Rattle.card_types.specs.Represents.{Represents, counter_of, entry_of, file_of, keeps_counter, key_of, object_of}
+use Rattle.card_types.specs.Represents.{Represents, counter_of, entry_of, file_of, keeps_counter, key_of, object_of, held}
 use Rattle.card_types.specs.SlotChange.{SetsKey, SetsObject}
-use Rattle.card_types.specs.Slots.{held}
 use Rattle.card_types.specs.declared.tables.KeyRec.{KeyRec}
 use Rattle.card_types.specs.declared.tables.Object.{Object}
 use Rattle.card_types.specs.declared.tables.Tables.{Tables}

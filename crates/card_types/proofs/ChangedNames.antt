@@ -12,8 +12,8 @@ use Rattle.std.proofs.lemmas.Cmp.{nat_list_cmp_total, on_total}
 use Rattle.std.proofs.lemmas.List.Kept.{IsStrictlySortedBy-filter}
 use Rattle.std.proofs.lemmas.List.Sorted.{Contains-permutation, IsPermutation-cons, IsPermutation-middle, IsPermutation-refl, IsPermutation-sym, IsPermutation-trans, sum_by-IsPermutation}
 use Rattle.std.proofs.lemmas.List.Sums.{sum_by-cons}
-use Rattle.card_types.specs.AidOrder.{aid_order, same_aid}
-use Rattle.card_types.specs.Changed.{IsRemoved, IsReplaced}
+use Rattle.card_types.specs.Aid.{aid_order, same_aid}
+use Rattle.card_types.specs.RegistryChange.{IsRemoved, IsReplaced}
 use Rattle.card_types.proofs.AtMostOnce.{AtMostOnce, once_from_sorted, same_members}
 use Rattle.card_types.proofs.LeastOfList.{first_below, others_sorted, sorted_by_name, tie}
 use Rattle.card_types.proofs.Members.{contains_cases, contains_filter, contains_first, contains_later, filtered}

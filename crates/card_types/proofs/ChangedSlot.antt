@@ -9,9 +9,8 @@ use Rattle.std.proofs.lemmas.List.Sorted.{IsPermutation-cons, IsPermutation-midd
 use Rattle.std.specs.Cmp.{IsTotalOrder}
 use Rattle.std.specs.declared.cmp.Ordering.{Ordering}
 use Rattle.card_types.proofs.AtMostOnce.{AtMostOnce, once_from_sorted, without_first}
-use Rattle.card_types.specs.Changed.{IsChanged}
-use Rattle.card_types.specs.Represents.{used}
-use Rattle.card_types.specs.Slots.{held}
+use Rattle.card_types.specs.RegistryChange.{IsChanged}
+use Rattle.card_types.specs.Represents.{used, held}
 
 -- what a slot shows: a view of what it holds, if that is kept
 abbrev pub shown : {T X : Type 0} → (T → X) → (T → Bool) → Option T → Option X

@@ -4,13 +4,11 @@ use Rattle.std.specs.Prelude.{IsSome, MatchOption, unwrap_or}
 use Rattle.std.specs.Option.{option_map}
 use Rattle.std.proofs.lemmas.List.Elements.{All-contains}
 use Rattle.std.proofs.lemmas.Option.{MatchOption-at_some}
-use Rattle.card_types.specs.Aid.{IsAid}
-use Rattle.card_types.specs.AidOrder.{same_aid}
+use Rattle.card_types.specs.Aid.{IsAid, same_aid}
 use Rattle.card_types.specs.Privileges.{has, security_domain}
 use Rattle.card_types.specs.Registry as registry
 use Rattle.card_types.specs.Registry.{domain_of, entry_named, file_named, is_domain}
-use Rattle.card_types.specs.Represents.{Represents, domain_aid, domain_slot, entry_of, file_aid, file_of, key_of, object_of}
-use Rattle.card_types.specs.Slots.{held}
+use Rattle.card_types.specs.Represents.{Represents, domain_aid, domain_slot, entry_of, file_aid, file_of, key_of, object_of, held}
 use Rattle.card_types.specs.Well.{IsDomainNamed, IsWellEntry, IsWellFile, IsWellKey, IsWellObject, Well}
 use Rattle.card_types.specs.declared.tables.Entry.{Entry}
 use Rattle.card_types.specs.declared.tables.LoadFile.{LoadFile}

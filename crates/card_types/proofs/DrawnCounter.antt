@@ -3,13 +3,12 @@ use Rattle.std.proofs.Common.{◌≡◌, ℕ, zero, suc, ◌<◌, true, List, []
 use Rattle.std.specs.Option.{option_map}
 use Rattle.std.proofs.lemmas.Option.{MatchOption-at_some}
 use Rattle.std.proofs.lemmas.List.Sorted.{IsPermutation-refl}
-use Rattle.card_types.specs.Ascending.{counter_order, key_order}
-use Rattle.card_types.specs.Changed.{IsChanged}
+use Rattle.card_types.specs.Registry.{counter_order, key_order}
+use Rattle.card_types.specs.RegistryChange.{IsChanged}
 use Rattle.card_types.specs.Counters.{HasNextCounter, raised, raised_key}
 use Rattle.card_types.specs.Registry as registry
-use Rattle.card_types.specs.Represents.{Represents, counter_of, domain_aid, keeps_counter, key_of}
+use Rattle.card_types.specs.Represents.{Represents, counter_of, domain_aid, keeps_counter, key_of, held}
 use Rattle.card_types.specs.SlotChange.{SetsKey}
-use Rattle.card_types.specs.Slots.{held}
 use Rattle.card_types.specs.Well.{Well}
 use Rattle.card_types.specs.declared.limits.TheConstants.{COUNTER_LIMIT}
 use Rattle.card_types.specs.declared.tables.KeyRec.{KeyRec}

@@ -1,12 +1,11 @@
 -- Entries in slots, and the entries that the registry has by names.
 use Rattle.std.proofs.Common.{◌≡◌, ℕ, Bool, List, None, Some}
 use Rattle.std.specs.Prelude.{find}
-use Rattle.card_types.specs.AidOrder.{same_aid, aid_order}
-use Rattle.card_types.specs.Least.{IsLeast, NoneFits}
+use Rattle.card_types.specs.Aid.{same_aid, aid_order}
+use Rattle.card_types.specs.Search.{IsLeast, NoneFits}
 use Rattle.card_types.specs.Registry as registry
 use Rattle.card_types.specs.Registry.{entry_named}
-use Rattle.card_types.specs.Represents.{Represents, entry_of}
-use Rattle.card_types.specs.Slots.{held}
+use Rattle.card_types.specs.Represents.{Represents, entry_of, held}
 use Rattle.card_types.specs.declared.tables.Entry.{Entry}
 use Rattle.card_types.specs.declared.tables.Tables.{Tables}
 use Rattle.card_types.proofs.NamesByAid.{aid_in_slot, slot_of_aid, one_slot_of_aid, least_aid, no_aid}

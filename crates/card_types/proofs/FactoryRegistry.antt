@@ -3,8 +3,7 @@ use Rattle.std.proofs.Common.{ℕ, List, Option, ap, length, refl}
 use Rattle.std.specs.List.Sorted.{IsStrictlySortedBy}
 use Rattle.std.proofs.lemmas.List.Sorted.{IsPermutation-refl}
 use Rattle.card_types.specs.Factory.{IsFactory, factory_registry}
-use Rattle.card_types.specs.Represents.{Represents}
-use Rattle.card_types.specs.Layout.{HasLayout}
+use Rattle.card_types.specs.Represents.{Represents, HasLayout}
 use Rattle.card_types.specs.declared.tables.Entry.{Entry}
 use Rattle.card_types.specs.declared.tables.KeyRec.{KeyRec}
 use Rattle.card_types.specs.declared.tables.LoadFile.{LoadFile}

@@ -7,7 +7,7 @@ use Rattle.std.specs.Ordering.{is_lt}
 use Rattle.std.specs.declared.cmp.Ordering.{Ordering}
 use Rattle.std.proofs.lemmas.Bool.{cases_Bool}
 use Rattle.std.proofs.lemmas.Cmp.{tied_itself}
-use Rattle.card_types.specs.Ascending.{key_order}
+use Rattle.card_types.specs.Registry.{key_order}
 use Rattle.card_types.specs.Registry as registry
 use Rattle.card_types.proofs.LeastOfList.{find_first, find_later, first_below, others_sorted}
 use Rattle.card_types.proofs.KeyNames.{key_order_total}

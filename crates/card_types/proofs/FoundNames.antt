@@ -4,13 +4,12 @@ use Rattle.std.specs.Prelude.{find}
 use Rattle.std.specs.Option.{option_map}
 use Rattle.std.proofs.lemmas.Bool.{and_from, and_parts, false_from_ne_true, not_from_false, not-true}
 use Rattle.std.specs.declared.cmp.Ordering.TheVariants.{Greater}
-use Rattle.card_types.specs.AidOrder.{aid_order, same_aid}
-use Rattle.card_types.specs.Following.{is_above}
+use Rattle.card_types.specs.Aid.{aid_order, same_aid}
+use Rattle.card_types.specs.Search.{is_above}
 use Rattle.card_types.specs.Found.{IsNext, NoneFollows, aid_of}
 use Rattle.card_types.specs.Registry as registry
 use Rattle.card_types.specs.Registry.{entry_named, file_named}
-use Rattle.card_types.specs.Represents.{Represents, entry_of, file_of}
-use Rattle.card_types.specs.Slots.{held}
+use Rattle.card_types.specs.Represents.{Represents, entry_of, file_of, held}
 use Rattle.card_types.specs.declared.factory.TheConstants.{ISSUER}
 use Rattle.card_types.specs.declared.found.Found.{Found}
 use Rattle.card_types.specs.declared.found.Found.TheVariants as found

@@ -3,12 +3,11 @@ use Rattle.std.proofs.Common.{◌≡◌, ℕ, Bool, true, ◌&&◌, List, None, 
 use Rattle.std.specs.Prelude.{find}
 use Rattle.std.specs.Cmp.{IsTotalOrder}
 use Rattle.std.proofs.lemmas.Cmp.{nat_cmp_total, nat_list_cmp_total, on_total, then_total, tied_itself}
-use Rattle.card_types.specs.Ascending.{key_order, counter_order}
-use Rattle.card_types.specs.Least.{IsLeast, NoneFits}
+use Rattle.card_types.specs.Registry.{key_order, counter_order}
+use Rattle.card_types.specs.Search.{IsLeast, NoneFits}
 use Rattle.card_types.specs.Registry as registry
-use Rattle.card_types.specs.Slots.{held}
+use Rattle.card_types.specs.Represents.{held, Represents, counter_of, domain_aid, keeps_counter, key_of}
 use Rattle.card_types.proofs.SameAid.{aid_same_equal}
-use Rattle.card_types.specs.Represents.{Represents, counter_of, domain_aid, keeps_counter, key_of}
 use Rattle.card_types.specs.declared.tables.KeyRec.{KeyRec}
 use Rattle.card_types.specs.declared.tables.Tables.{Tables}
 use Rattle.card_types.proofs.Shows.{Shows, least_shown, none_shown, one_slot, shows_kept, shows_used}

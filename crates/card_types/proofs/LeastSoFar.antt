@@ -7,9 +7,8 @@ use Rattle.std.specs.declared.cmp.Ordering.TheVariants.{Less, Equal, Greater}
 use Rattle.std.proofs.lemmas.Bool.{and_parts}
 use Rattle.std.proofs.lemmas.List.{get_or_past}
 use Rattle.std.proofs.Math.Nat.{eq-or-lt_of_le}
-use Rattle.card_types.specs.Least.{IsLeast, NoneFits}
-use Rattle.card_types.specs.Nearer.{is_nearer}
-use Rattle.card_types.specs.Slots.{held}
+use Rattle.card_types.specs.Search.{IsLeast, NoneFits, is_nearer}
+use Rattle.card_types.specs.Represents.{held}
 use Rattle.card_types.specs.declared.search.InSlot.{InSlot}
 use Rattle.card_types.proofs.NotAbove.{not_above_self, not_above_third, not_below}
 

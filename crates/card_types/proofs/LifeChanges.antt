@@ -8,7 +8,7 @@ use Rattle.card_types.proofs.MappedEntries.{KeepsNames, entries_changed_ascendin
 use Rattle.card_types.proofs.NamedThings.{member_named}
 use Rattle.card_types.proofs.OthersWell.{all_owned, counters_well, keys_well, objects_well}
 use Rattle.card_types.proofs.SameAid.{same_aid_decides}
-use Rattle.card_types.specs.AidOrder.{same_aid}
+use Rattle.card_types.specs.Aid.{same_aid}
 use Rattle.card_types.specs.ChangeLaws.{CardLifeKeeps, IsOfCard, LifeKeeps, LocksKeep, ReceiptsKeep}
 use Rattle.card_types.specs.Registry.{Entry, Registry, entry_named, is_domain}
 use Rattle.card_types.specs.RegistryChange.{with_card_life, with_entries}

@@ -12,10 +12,9 @@ use Rattle.card_types.proofs.LineChanges.{leads_kept}
 use Rattle.card_types.proofs.Members.{mapped}
 use Rattle.card_types.proofs.OthersWell.{all_owned, counters_well, keys_well, objects_well}
 use Rattle.card_types.proofs.SameAid.{same_aid_decides}
-use Rattle.card_types.specs.AidOrder.{aid_order, same_aid}
-use Rattle.card_types.specs.Ascending.{IsAscending}
+use Rattle.card_types.specs.Aid.{aid_order, same_aid}
+use Rattle.card_types.specs.Registry.{IsAscending, Entry, LoadFile, Registry, domain_of, entry_named, file_named, is_domain}
 use Rattle.card_types.specs.Privileges.{has, security_domain}
-use Rattle.card_types.specs.Registry.{Entry, LoadFile, Registry, domain_of, entry_named, file_named, is_domain}
 use Rattle.card_types.specs.Well.{IsDomainNamed, IsFactoryFile, IsIssuerDomain, IsProperEntry, IsWellEntry, IsWellFile, LeadsToRoot, Well, pages_of}
 use Rattle.card_types.specs.declared.factory.TheConstants.{ISSUER, FACTORY_FILE}
 

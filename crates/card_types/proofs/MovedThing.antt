@@ -15,7 +15,7 @@ use Rattle.card_types.proofs.MappedEntries.{KeepsNames, changed_well, domain_sti
 use Rattle.card_types.proofs.Members.{mapped}
 use Rattle.card_types.proofs.NamedThings.{aid_cases, domain_leads}
 use Rattle.card_types.proofs.SameAid.{same_aid_decides}
-use Rattle.card_types.specs.AidOrder.{aid_order, same_aid}
+use Rattle.card_types.specs.Aid.{aid_order, same_aid}
 use Rattle.card_types.specs.ChangeLaws.{IsOfCard, MayMove, MovedKeeps}
 use Rattle.card_types.specs.Registry.{Entry, LoadFile, Registry, domain_of, entry_named, file_named}
 use Rattle.card_types.specs.RegistryChange.{moved}

@@ -12,8 +12,8 @@ use Rattle.card_types.proofs.ChangedFound.{kept_found, put_found}
 use Rattle.card_types.proofs.LeastOfList.{found_fits, least_found, names_sorted, none_fits, none_found, sorted_by_name}
 use Rattle.card_types.proofs.Members.{contains_cases, filtered}
 use Rattle.card_types.proofs.SameAid.{aid_same_equal, aid_same_itself, same_aid_decides}
-use Rattle.card_types.specs.AidOrder.{aid_order, same_aid}
-use Rattle.card_types.specs.Changed.{IsPut}
+use Rattle.card_types.specs.Aid.{aid_order, same_aid}
+use Rattle.card_types.specs.RegistryChange.{IsPut}
 use Rattle.card_types.specs.ChangeLaws.{IsOfCard}
 use Rattle.card_types.specs.Registry.{Entry, Registry, entry_named, is_domain}
 use Rattle.card_types.specs.Well.{IsDomainNamed, IsWellEntry, LeadsToRoot}

@@ -5,10 +5,9 @@ use Rattle.std.specs.List.Sorted.{IsPermutation, IsStrictlySortedBy}
 use Rattle.std.specs.Cmp.{IsTotalOrder}
 use Rattle.std.specs.Ordering.{on}
 use Rattle.std.proofs.lemmas.Cmp.{nat_list_cmp_total, on_total}
-use Rattle.card_types.specs.AidOrder.{same_aid, aid_order}
-use Rattle.card_types.specs.Least.{IsLeast, NoneFits}
-use Rattle.card_types.specs.Represents.{used}
-use Rattle.card_types.specs.Slots.{held}
+use Rattle.card_types.specs.Aid.{same_aid, aid_order}
+use Rattle.card_types.specs.Search.{IsLeast, NoneFits}
+use Rattle.card_types.specs.Represents.{used, held}
 use Rattle.card_types.proofs.LeastOfList.{sorted_by_name}
 use Rattle.card_types.proofs.SameAid.{same_aid_decides, aid_same_itself, aid_same_equal}
 use Rattle.card_types.proofs.Shows.{Shows, least_shown, none_shown, one_slot, only_shown, shows_used, slot_of_found}

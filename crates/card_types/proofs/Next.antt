@@ -4,11 +4,10 @@ use Rattle.std.specs.Option.{option_map}
 use Rattle.std.specs.Ordering.{is_lt}
 use Rattle.std.specs.declared.cmp.Ordering.{Ordering}
 use Rattle.std.specs.declared.cmp.Ordering.TheVariants.{Less, Equal, Greater}
-use Rattle.card_types.specs.AidOrder.{aid_order}
-use Rattle.card_types.specs.Following.{is_above}
+use Rattle.card_types.specs.Aid.{aid_order}
+use Rattle.card_types.specs.Search.{is_above, IsLeast, NoneFits}
 use Rattle.card_types.specs.Found.{IsAbove, IsNext, IsOf, NoneFollows, aid_of}
-use Rattle.card_types.specs.Least.{IsLeast, NoneFits}
-use Rattle.card_types.specs.Slots.{held}
+use Rattle.card_types.specs.Represents.{held}
 use Rattle.card_types.specs.declared.found.Found.{Found}
 use Rattle.card_types.specs.declared.found.Found.TheVariants.{Entry, File}
 use Rattle.card_types.specs.declared.found.Kind.{Kind}

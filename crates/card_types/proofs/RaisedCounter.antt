@@ -9,11 +9,10 @@ use Rattle.std.specs.declared.cmp.Ordering.TheVariants.{Less, Equal, Greater}
 use Rattle.std.proofs.lemmas.Bool.{and_from, and_parts, cases_Bool, cond_both, eq-eqb, eqb-true}
 use Rattle.std.proofs.lemmas.List.Elements.{All-contains, All-contains_itself, All-weaker}
 use Rattle.std.proofs.lemmas.List.Sorted.{IsPermutation-cons, IsPermutation-middle, IsPermutation-trans}
-use Rattle.card_types.specs.AidOrder.{same_aid}
-use Rattle.card_types.specs.Ascending.{counter_order}
-use Rattle.card_types.specs.Changed.{IsReplaced}
+use Rattle.card_types.specs.Aid.{same_aid}
+use Rattle.card_types.specs.Registry.{counter_order, Counter, Entry, Key, LoadFile, Object, Registry, counter_named}
+use Rattle.card_types.specs.RegistryChange.{IsReplaced}
 use Rattle.card_types.specs.Counters.{raised, raised_counter}
-use Rattle.card_types.specs.Registry.{Counter, Entry, Key, LoadFile, Object, Registry, counter_named}
 use Rattle.card_types.specs.Well.{IsWellCounter, IsWellEntry, IsWellFile, IsWellKey, IsWellObject, IsWholeSet, Well}
 use Rattle.card_types.specs.declared.limits.TheConstants.{COUNTER_LIMIT}
 use Rattle.card_types.proofs.KeyNames.{counter_order_total}

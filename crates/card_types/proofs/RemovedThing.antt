@@ -14,10 +14,9 @@ use Rattle.card_types.proofs.Members.{contains_filter, filtered}
 use Rattle.card_types.proofs.NamedThings.{aid_differs, of_rest, rest_found, rest_shorter, rest_sorted, rest_unfound}
 use Rattle.card_types.proofs.OthersWell.{KeepsOwned, all_owned, counters_well, keys_well, objects_well}
 use Rattle.card_types.proofs.SameAid.{same_aid_decides}
-use Rattle.card_types.specs.AidOrder.{same_aid}
-use Rattle.card_types.specs.Ascending.{counter_order, key_order, object_order}
+use Rattle.card_types.specs.Aid.{same_aid}
+use Rattle.card_types.specs.Registry.{counter_order, key_order, object_order, Counter, Entry, Key, LoadFile, Object, Registry, domain_of, entry_named, file_named, is_domain}
 use Rattle.card_types.specs.ChangeLaws.{EntryRemovedKeeps, FileRemovedKeeps, IsOfCard, MayRemoveEntry}
-use Rattle.card_types.specs.Registry.{Counter, Entry, Key, LoadFile, Object, Registry, domain_of, entry_named, file_named, is_domain}
 use Rattle.card_types.specs.RegistryChange.{without_entry, without_file}
 use Rattle.card_types.specs.Well.{IsFactoryFile, IsIssuerDomain, IsWellEntry, IsWellFile, pages_of}
 use Rattle.card_types.specs.declared.factory.TheConstants.{ISSUER, FACTORY_FILE}

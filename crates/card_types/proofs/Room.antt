@@ -4,10 +4,9 @@ use Rattle.std.specs.Prelude.{IfNone, IsSome, map}
 use Rattle.std.specs.List.Sorted.{IsPermutation}
 use Rattle.std.proofs.lemmas.List.{length-map}
 use Rattle.std.proofs.lemmas.List.Sorted.{length_permutation}
-use Rattle.card_types.specs.First.{NoneFree}
+use Rattle.card_types.specs.Search.{NoneFree}
 use Rattle.card_types.specs.Registry as registry
-use Rattle.card_types.specs.Represents.{Represents, entry_of, file_of, key_of, object_of, used}
-use Rattle.card_types.specs.Slots.{held}
+use Rattle.card_types.specs.Represents.{Represents, entry_of, file_of, key_of, object_of, used, held}
 use Rattle.card_types.specs.declared.tables.Tables.{Tables}
 
 module _ {T : Type 0} where

@@ -5,7 +5,7 @@ use Rattle.std.proofs.lemmas.Slice.Eq.{slice_eq-Decides}
 use Rattle.std.proofs.lemmas.Cmp.{nat_list_cmp_total, tied_itself}
 use Rattle.std.proofs.lemmas.Map.Lookups.{exact_bytes}
 use Rattle.std.specs.declared.cmp.Ordering.TheVariants.{Equal}
-use Rattle.card_types.specs.AidOrder.{same_aid, aid_order}
+use Rattle.card_types.specs.Aid.{same_aid, aid_order}
 
 pub same_aid_decides : (a b : List ℕ) → Decides (same_aid a b) (a ≡ b)
 same_aid_decides a b = slice_eq-Decides Decides-eqb a b (same_aid a b) refl

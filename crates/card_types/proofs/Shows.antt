@@ -10,9 +10,8 @@ use Rattle.std.proofs.lemmas.Bool.{cases_eq, and_from, and_parts}
 use Rattle.std.proofs.lemmas.Cmp.{tied_itself}
 use Rattle.std.proofs.lemmas.List.Sorted.{Contains-permutation, IsPermutation-sym, sum_by-IsPermutation}
 use Rattle.std.proofs.lemmas.List.Sums.{sum_by-cons}
-use Rattle.card_types.specs.Least.{IsLeast, NoneFits}
-use Rattle.card_types.specs.Represents.{used}
-use Rattle.card_types.specs.Slots.{held}
+use Rattle.card_types.specs.Search.{IsLeast, NoneFits}
+use Rattle.card_types.specs.Represents.{used, held}
 use Rattle.card_types.proofs.LeastOfList.{found_fits, none_found, least_found, one_ties, tie}
 use Rattle.card_types.proofs.Members.{contains_cases, contains_filter, contains_first, contains_later, contains_map, filtered, mapped}
 

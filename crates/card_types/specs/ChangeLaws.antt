@@ -3,9 +3,8 @@
 use Rattle.std.specs.Prelude.{◌≡◌, ◌≢◌, ℕ, ◌+◌, ◌<◌, ◌≤◌, List, Bool, true, false, None, Contains, IfSome, IsSome, length}
 use Rattle.std.specs.List.{sum_by}
 use Rattle.card_types.specs.Aid.{IsAid}
-use Rattle.card_types.specs.Ascending.{IsAscending}
+use Rattle.card_types.specs.Registry.{IsAscending, Entry, LoadFile, Registry, domain_of, entry_named, file_named, is_domain}
 use Rattle.card_types.specs.Hierarchy.{IsLine}
-use Rattle.card_types.specs.Registry.{Entry, LoadFile, Registry, domain_of, entry_named, file_named, is_domain}
 use Rattle.card_types.specs.RegistryChange.{IsEntryAdded, IsFileAdded, moved, with_card_life, with_life, with_locks, with_receipts, without_applications, without_entry, without_file}
 use Rattle.card_types.specs.Well.{IsDomainNamed, IsProperEntry, Well, has_life, pages_of}
 use Rattle.card_types.specs.declared.card_life.CardLife.{CardLife}

@@ -1,9 +1,8 @@
 -- Sequence counters of key sets (GlobalPlatform Amendment D, chapter 6).
 use Rattle.std.specs.Prelude.{ℕ, ◌+◌, ◌<◌, ◌==◌, ◌&&◌, ◌≡◌, List, true, Option, MatchOption, cond, map}
-use Rattle.card_types.specs.AidOrder.{same_aid}
+use Rattle.card_types.specs.Aid.{same_aid}
 use Rattle.card_types.specs.Registry.{Counter, Registry}
-use Rattle.card_types.specs.Represents.{keeps_counter}
-use Rattle.card_types.specs.Slots.{held}
+use Rattle.card_types.specs.Represents.{keeps_counter, held}
 use Rattle.card_types.specs.declared.limits.TheConstants.{COUNTER_LIMIT}
 use Rattle.card_types.specs.declared.tables.KeyRec.{KeyRec}
 

@@ -1,8 +1,11 @@
 -- The persistent state of a card, by names: the GlobalPlatform Registry (GlobalPlatform Card Specification 2.3.1, 6.5),
 -- with the keys and data objects of its security domains. A name is an AID, or an owner's AID and a number.
-use Rattle.std.specs.Prelude.{ℕ, List, Bool, Option, find, filter, ◌==◌, ◌&&◌}
+use Rattle.std.specs.List.Sorted.{IsStrictlySortedBy}
 use Rattle.std.specs.Option.{option_map}
-use Rattle.card_types.specs.AidOrder.{same_aid}
+use Rattle.std.specs.Ordering.{nat_cmp, ordering_then}
+use Rattle.std.specs.Prelude.{ℕ, List, Bool, Option, find, filter, ◌==◌, ◌&&◌, map}
+use Rattle.std.specs.declared.cmp.Ordering.{Ordering}
+use Rattle.card_types.specs.Aid.{same_aid, aid_order}
 use Rattle.card_types.specs.Privileges.{has, security_domain}
 use Rattle.card_types.specs.declared.card_life.CardLife.{CardLife}
 use Rattle.card_types.specs.declared.life.LifeMark.{LifeMark}
@@ -82,3 +85,21 @@ counter_named registry owner version = find (λ counter. same_aid counter.owner 
 -- the data object of a domain with this tag
 abbrev pub object_named : Registry → List ℕ → ℕ → Option Object
 object_named registry owner tag = find (λ object. same_aid object.owner owner && object.tag == tag) registry.objects
+
+-- The order of a registry's lists: each is in ascending order of its names, AIDs by their bytes, a prefix first.
+
+abbrev pub key_order : Key → Key → Ordering
+key_order a b = ordering_then (aid_order a.owner b.owner) (ordering_then (nat_cmp a.version b.version) (nat_cmp a.identifier b.identifier))
+
+abbrev pub counter_order : Counter → Counter → Ordering
+counter_order a b = ordering_then (aid_order a.owner b.owner) (nat_cmp a.version b.version)
+
+abbrev pub object_order : Object → Object → Ordering
+object_order a b = ordering_then (aid_order a.owner b.owner) (nat_cmp a.tag b.tag)
+
+pub record IsAscending (registry : Registry) : Type 0 where
+  pub entries : IsStrictlySortedBy aid_order (map (λ entry. entry.aid) registry.entries)
+  pub files : IsStrictlySortedBy aid_order (map (λ file. file.aid) registry.files)
+  pub keys : IsStrictlySortedBy key_order registry.keys
+  pub counters : IsStrictlySortedBy counter_order registry.counters
+  pub objects : IsStrictlySortedBy object_order registry.objects

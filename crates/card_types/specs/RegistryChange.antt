@@ -1,11 +1,30 @@
 -- What becomes of a registry, by names, where a thing is added, changed, moved or removed (GlobalPlatform Card Specification
 -- 2.3.1, 6.5, 9.3 and 11.2). All that a definition does not name stays as it was.
-use Rattle.std.specs.Prelude.{◌≡◌, ℕ, List, Bool, cond, filter, map, not}
-use Rattle.card_types.specs.AidOrder.{aid_order, same_aid}
-use Rattle.card_types.specs.Changed.{IsPut}
+use Rattle.std.specs.List.{cons_option}
+use Rattle.std.specs.List.Sorted.{IsPermutation, IsStrictlySortedBy}
+use Rattle.std.specs.Prelude.{List, Option, None, Some, ◌≡◌, ℕ, Bool, cond, filter, map, not}
+use Rattle.std.specs.declared.cmp.Ordering.{Ordering}
+use Rattle.card_types.specs.Aid.{aid_order, same_aid}
 use Rattle.card_types.specs.Registry.{Entry, LoadFile, Registry}
 use Rattle.card_types.specs.declared.card_life.CardLife.{CardLife}
 use Rattle.card_types.specs.declared.life.LifeMark.{LifeMark}
+
+-- A list in strictly ascending order before and after one change: something is put in, taken out, or put in place of
+-- another.
+
+-- with the new one, if there is one, the list before is the list after with the one that is gone
+pub record IsChanged {X : Type 0} (order : X → X → Ordering) (gone new : Option X) (before after : List X) : Type 0 where
+  pub ascending : IsStrictlySortedBy order after
+  pub same : IsPermutation (cons_option new before) (cons_option gone after)
+
+abbrev pub IsPut : {X : Type 0} → (X → X → Ordering) → X → List X → List X → Type 0
+IsPut order new = IsChanged order None (Some new)
+
+abbrev pub IsRemoved : {X : Type 0} → (X → X → Ordering) → X → List X → List X → Type 0
+IsRemoved order gone = IsChanged order (Some gone) None
+
+abbrev pub IsReplaced : {X : Type 0} → (X → X → Ordering) → X → X → List X → List X → Type 0
+IsReplaced order gone new = IsChanged order (Some gone) (Some new)
 
 -- the registry with another entry, and with another Executable Load File, in its place
 pub record IsEntryAdded (entry : Entry) (before after : Registry) : Type 0 where

@@ -1,16 +1,23 @@
 -- What the tables of a card say by names.
-use Rattle.std.specs.Prelude.{◌≡◌, ℕ, ◌+◌, ◌/◌, ◌==◌, ◌&&◌, List, [], Bool, Option, map, filter, take, unwrap_or, nat_lt}
 use Rattle.std.specs.List.{concat, filter_map}
 use Rattle.std.specs.List.Sorted.{IsPermutation}
 use Rattle.std.specs.Option.{option_map}
-use Rattle.card_types.specs.Ascending.{IsAscending}
-use Rattle.card_types.specs.Slots.{held}
-use Rattle.card_types.specs.Registry as registry
+use Rattle.std.specs.Prelude.{ℕ, List, Option, None, slice_index_or, ◌≡◌, ◌+◌, ◌/◌, ◌==◌, ◌&&◌, [], Bool, map, filter, take, unwrap_or, nat_lt, MatchOption, length}
+use Rattle.card_types.specs.Registry.{IsAscending, Registry}
+use Rattle.card_types.specs.Well.{Well}
+use Rattle.card_types.specs.declared.factory.TheConstants.{ISSUER}
+use Rattle.card_types.specs.declared.limits.TheConstants.{ENTRIES, FILES, KEYS, OBJECTS}
 use Rattle.card_types.specs.declared.tables.Entry.{Entry}
-use Rattle.card_types.specs.declared.tables.LoadFile.{LoadFile}
 use Rattle.card_types.specs.declared.tables.KeyRec.{KeyRec}
+use Rattle.card_types.specs.declared.tables.LoadFile.{LoadFile}
 use Rattle.card_types.specs.declared.tables.Object.{Object}
 use Rattle.card_types.specs.declared.tables.Tables.{Tables}
+use Rattle.card_types.specs.declared.tables.TheConstants.{ISSUER_SLOT}
+use Rattle.card_types.specs.Registry as registry
+
+-- what a slot of a list holds; there is nothing past the last one
+abbrev pub held : {T : Type 0} → List (Option T) → ℕ → Option T
+held slots slot = slice_index_or slots slot None
 
 -- what the used slots hold
 abbrev pub used : {T : Type 0} → List (Option T) → List T
@@ -77,3 +84,34 @@ pub record Represents (page : ℕ → List ℕ) (tables : Tables) (said : regist
   pub counters : IsPermutation (map (counter_of tables.entries.items) (filter keeps_counter (used tables.keys.items))) said.counters
   pub objects : IsPermutation (map (object_of tables.entries.items) (used tables.objects.items)) said.objects
   pub ascending : IsAscending said
+
+-- How tables lay out a registry: a slot for each thing that there is room for, and the Issuer Security Domain in a slot of
+-- its own.
+
+-- the Issuer Security Domain is in its slot
+abbrev pub HasIssuer : List (Option Entry) → Type 0
+HasIssuer entries = MatchOption (held entries ISSUER_SLOT) ⊥ (λ entry. entry.aid ≡ ISSUER)
+
+-- there is a slot for each thing that a card has room for
+pub record HasSlots (tables : Tables) : Type 0 where
+  pub entries : length tables.entries.items ≡ ENTRIES
+  pub files : length tables.files.items ≡ FILES
+  pub keys : length tables.keys.items ≡ KEYS
+  pub objects : length tables.objects.items ≡ OBJECTS
+
+-- There is a slot for each such thing, and the Issuer Security Domain is in its own.
+pub record HasLayout (tables : Tables) : Type 0 where
+  pub entries : length tables.entries.items ≡ ENTRIES
+  pub files : length tables.files.items ≡ FILES
+  pub keys : length tables.keys.items ≡ KEYS
+  pub objects : length tables.objects.items ≡ OBJECTS
+  pub issuer : HasIssuer tables.entries.items
+
+-- For the code inside. The tables of a card: they lay out a registry that a card may have.
+
+pub record IsInOrder (tables : Tables) : Type 0 where
+  pub layout : HasLayout tables
+  pub page : ℕ → List ℕ
+  pub said : Registry
+  pub says : Represents page tables said
+  pub well : Well said

@@ -2,8 +2,7 @@
 -- 7). The numbers of the limits are this profile's own.
 use Rattle.std.specs.Prelude.{◌≡◌, ◌⊎◌, ℕ, ◌+◌, ◌/◌, ◌<◌, ◌≤◌, List, [], Bool, true, false, None, MatchOption, IsSome, All, Contains, length, Some, ◌||◌, ◌&&◌}
 use Rattle.std.specs.List.{sum_by}
-use Rattle.card_types.specs.Aid.{IsAid}
-use Rattle.card_types.specs.AidOrder.{same_aid}
+use Rattle.card_types.specs.Aid.{IsAid, same_aid}
 use Rattle.card_types.specs.Hierarchy.{IsLine}
 use Rattle.card_types.specs.Privileges.{IsNamed, authorized_management, delegated_management, has, receipt_generation, token_verification}
 use Rattle.card_types.specs.Registry.{Registry, Entry, LoadFile, Key, Counter, Object, counter_named, domain_of, entry_named, file_named, is_domain, key_named, keys_of}

@@ -2,8 +2,7 @@
 
 ghost use Rattle.std.specs.Prelude.{◌≡◌, ℕ, List, ◌++◌, None, replicate, IfOk};
 ghost use Rattle.card_types.specs.Factory.{IsFactory, IsFactoryKey, factory_entry, factory_file, factory_registry};
-ghost use Rattle.card_types.specs.InOrder.{IsInOrder};
-ghost use Rattle.card_types.specs.Represents.{Represents};
+ghost use Rattle.card_types.specs.Represents.{IsInOrder, Represents};
 ghost use Rattle.card_types.specs.Well.{Well};
 
 use crate::aid::Aid;

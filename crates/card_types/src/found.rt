@@ -2,8 +2,8 @@
 
 ghost use Rattle.std.specs.Prelude.{◌≡◌, ◌≢◌, IfSome, IfNone, vec_len, option_copied};
 ghost use Rattle.card_types.specs.Found.{IsNext, NoneFollows, aid_of};
-ghost use Rattle.card_types.specs.AidOrder.{aid_order, same_aid};
-ghost use Rattle.card_types.specs.Following.{is_above};
+ghost use Rattle.card_types.specs.Aid.{aid_order, same_aid};
+ghost use Rattle.card_types.specs.Search.{is_above};
 ghost use Rattle.std.proofs.lemmas.Cmp.{nat_list_cmp_total, on_total};
 
 use crate::aid::Aid;

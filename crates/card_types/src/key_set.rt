@@ -1,12 +1,9 @@
 //! Key sets: in the list of keys, and by the domain and the key version number.
 
 ghost use Rattle.std.specs.Prelude.{◌≡◌, ◌≤◌, ◌↔◌, ◌⊎◌, ℕ, List, true, Some, IsSome, IsTrue, IfSome, IfNone, Contains, length};
-ghost use Rattle.card_types.specs.InOrder.{IsInOrder};
-ghost use Rattle.card_types.specs.KeySets.{HasKey, HasKeys, HoldsKeyOf, IsKeyOf, IsSetOf, NoSetOf, is_key};
-ghost use Rattle.card_types.specs.NamedKeys.{AreKeysOf, HaveKeyLength};
+ghost use Rattle.card_types.specs.Represents.{IsInOrder, Represents, domain_aid, keeps_counter, held};
+ghost use Rattle.card_types.specs.KeySets.{HasKey, HasKeys, HoldsKeyOf, IsKeyOf, IsSetOf, NoSetOf, is_key, AreKeysOf, HaveKeyLength};
 ghost use Rattle.card_types.specs.Registry.{Counter, Registry};
-ghost use Rattle.card_types.specs.Represents.{Represents, domain_aid, keeps_counter};
-ghost use Rattle.card_types.specs.Slots.{held};
 ghost use Rattle.card_types.specs.Well.{Well};
 ghost use Rattle.card_types.specs.declared.limits.TheConstants.{KEYS};
 ghost use Rattle.card_types.specs.declared.tables.Entry.{Entry};

@@ -4,9 +4,7 @@ ghost use Rattle.std.specs.Prelude.{◌≡◌, ℕ, ◌≤◌, Bool, true, List,
 ghost use Rattle.std.specs.Cmp.{IsTotalOrder};
 ghost use Rattle.std.specs.Ordering.{is_lt};
 ghost use Rattle.std.specs.declared.cmp.Ordering.{Ordering};
-ghost use Rattle.card_types.specs.First.{IsFirstFitting, IsFirstFree, NoneFree};
-ghost use Rattle.card_types.specs.Least.{NoneFits};
-ghost use Rattle.card_types.specs.Nearer.{IsLeastFound, is_nearer};
+ghost use Rattle.card_types.specs.Search.{IsFirstFitting, IsFirstFree, NoneFree, NoneFits, IsLeastFound, is_nearer};
 
 /// What is looked for among things of one type.
 pub trait Wants<T> {

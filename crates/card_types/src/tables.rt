@@ -1,7 +1,7 @@
 //! The persistent state of a card, in slots.
 
 ghost use Rattle.std.specs.Prelude.{◌≡◌, None, Some, MatchOption};
-ghost use Rattle.card_types.specs.Slots.{held};
+ghost use Rattle.card_types.specs.Represents.{held};
 
 use crate::aid::Aid;
 use crate::card_life::CardLife;

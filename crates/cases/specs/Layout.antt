@@ -1,7 +1,6 @@
 -- For the code inside. What words lay out in the pages of a device.
 use Rattle.std.specs.Prelude.{◌≡◌, ℕ, ◌+◌, ◌/◌, ◌%◌, List, [], ◌∷◌, ◌++◌, codes, length}
-use Rattle.script_tool.specs.Values.{SpellsByte}
-use Rattle.script_tool.specs.Words.{words_of}
+use Rattle.script_tool.specs.Words.{SpellsByte, words_of}
 use Rattle.cases.specs.Image.{with_bytes}
 use Rattle.cases.specs.Slots.{place_of, named, padded}
 use Rattle.cases.specs.Things.{SaysEntry, SaysKey, SaysObject}

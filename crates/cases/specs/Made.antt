@@ -8,7 +8,7 @@ use Rattle.card_types.specs.declared.card_life.CardLife.{CardLife}
 use Rattle.card_types.specs.declared.found.Found.TheVariants.{Entry as InEntry, File as InFile}
 use Rattle.card_types.specs.declared.tables.Entry.{Entry}
 use Rattle.card_types.specs.declared.tables.Tables.{Tables}
-use Rattle.script_tool.specs.Values.{SpellsByte}
+use Rattle.script_tool.specs.Words.{SpellsByte}
 use Rattle.cases.specs.Things.{SaysEntry}
 use Rattle.cases.specs.declared.things.EntryWords.{EntryWords}
 

@@ -1,6 +1,6 @@
 -- For the code inside. The things of a registry, as words say them.
 use Rattle.std.specs.Prelude.{◌≡◌, ℕ, List, [], ◌∷◌, codes}
-use Rattle.script_tool.specs.Values.{SpellsSome, SpellsUpTo}
+use Rattle.script_tool.specs.Words.{SpellsSome, SpellsUpTo}
 use Rattle.cases.specs.declared.things.EntryWords.{EntryWords}
 use Rattle.cases.specs.declared.things.FileWords.{FileWords}
 use Rattle.cases.specs.declared.things.KeyWords.{KeyWords}

@@ -9,9 +9,7 @@ ghost use Rattle.card_types.specs.declared.found.Found.TheVariants.{Entry as InE
 ghost use Rattle.cases.specs.Made.{IsEntryOf, SaysLife, SaysMade};
 ghost use Rattle.page_journal.specs.Pages.{IsLoadPage};
 ghost use Rattle.rec_store.specs.KeySlot.{IsRoomyKey};
-ghost use Rattle.script_tool.specs.Reads.{Reads};
-ghost use Rattle.script_tool.specs.Values.{SpellsByte};
-ghost use Rattle.script_tool.specs.Words.{left};
+ghost use Rattle.script_tool.specs.Words.{Reads, SpellsByte, left};
 
 use crate::case_error::CaseError;
 use crate::things::{EntryWords, FileWords, KeyWords, Name, ObjectWords, slot_number};
@@ -37,7 +35,7 @@ pub fn made_life(words: Words<'_>) -> Result<CardLife, CaseError>
 }
 
 // The life cycle state whose code two digits spell.
-#[tactic(auto, unfolding(script_lines::specs::Values::SpellsByte))]
+#[tactic(auto, unfolding(script_lines::specs::Words::SpellsByte))]
 fn life(word: &[u8]) -> Option<CardLife>
     ensures { Reads (λ life. SpellsByte word.now (card_life_code life)) result }
 {

@@ -3,8 +3,7 @@
 ghost use Rattle.std.specs.Prelude.{◌≡◌, ◌<◌, ◌^◌, ℕ, List, decimal, Some, IfNone, IfOk, IfSome};
 ghost use Rattle.cases.specs.Things.{SaysEntry, SaysFile, SaysKey, SaysObject, SaysState};
 ghost use Rattle.cases.specs.declared.things.FileWords.{FileWords};
-ghost use Rattle.script_tool.specs.Reads.{Reads};
-ghost use Rattle.script_tool.specs.Words.{left};
+ghost use Rattle.script_tool.specs.Words.{Reads, left};
 
 use crate::case_error::CaseError;
 use crate::words::{after, last_after, short_number};

@@ -6,8 +6,7 @@ use Rattle.std.proofs.lemmas.Bool.{eqb-false, eqb-true}
 use Rattle.card_types.proofs.FoundNames.{found_entry_named, found_file_named, none_found_none_named}
 use Rattle.card_types.specs.Found.{aid_of}
 use Rattle.card_types.specs.Registry as registry
-use Rattle.card_types.specs.Represents.{domain_slot}
-use Rattle.card_types.specs.Slots.{held}
+use Rattle.card_types.specs.Represents.{domain_slot, held}
 use Rattle.card_types.specs.declared.factory.TheConstants.{FACTORY_FILE, ISSUER}
 use Rattle.card_types.specs.declared.found.Found.{Found}
 use Rattle.card_types.specs.declared.found.Found.TheVariants as found
@@ -28,8 +27,7 @@ use Rattle.content_rules.specs.declared.delete_object.DeletionRequest.{DeletionR
 use Rattle.policy_slots.proofs.ChargeNamed.{above_alike}
 use Rattle.policy_slots.proofs.FileCharge.{entry_no_file}
 use Rattle.policy_slots.proofs.ThingsFound.{acting_named, entry_at}
-use Rattle.policy_slots.specs.Acting.{ActsIn}
-use Rattle.policy_slots.specs.StateShown.{RepresentsState}
+use Rattle.policy_slots.specs.StateShown.{ActsIn, RepresentsState}
 use Rattle.policy_slots.specs.declared.live.Live.{Live}
 
 module _ (page : ℕ → List ℕ) (tables : Tables) (domain : ℕ) (admitted : Admitted) (acts : ActsIn page tables domain admitted) where

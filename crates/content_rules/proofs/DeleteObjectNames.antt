@@ -11,13 +11,11 @@ use Rattle.card_types.proofs.FileNames.{one_file_slot}
 use Rattle.card_types.proofs.FoundNames.{found_file_named}
 use Rattle.card_types.proofs.LeastOfList.{found_fits}
 use Rattle.card_types.proofs.Shows.{shows_used}
-use Rattle.card_types.specs.Aid.{IsAid}
-use Rattle.card_types.specs.AidOrder.{same_aid}
+use Rattle.card_types.specs.Aid.{IsAid, same_aid}
 use Rattle.card_types.specs.Found.{aid_of}
 use Rattle.card_types.specs.Registry as registry
 use Rattle.card_types.specs.Registry.{entry_named, file_named}
-use Rattle.card_types.specs.Represents.{Represents, domain_aid, entry_of, file_aid, file_of}
-use Rattle.card_types.specs.Slots.{held}
+use Rattle.card_types.specs.Represents.{Represents, domain_aid, entry_of, file_aid, file_of, held}
 use Rattle.card_types.specs.Well.{IsDomainNamed, IsWellEntry, IsWellFile, Well}
 use Rattle.card_types.specs.declared.found.Found.TheVariants as found
 use Rattle.card_types.specs.declared.tables.Entry.{Entry}
@@ -25,7 +23,7 @@ use Rattle.card_types.specs.declared.tables.LoadFile.{LoadFile}
 use Rattle.card_types.specs.declared.tables.Tables.{Tables}
 use Rattle.policy_machine.proofs.FileApart.{file_apart}
 use Rattle.policy_machine.specs.DeleteObject.{ComesFrom, HasOthers, IsLoadedInto, IsSelected}
-use Rattle.policy_machine.specs.Volatile.{Channel, LoadSession, Volatile, channel_at}
+use Rattle.policy_machine.specs.State.{Channel, LoadSession, Volatile, channel_at}
 use Rattle.policy_machine.specs.declared.channels.TheConstants.{CHANNELS}
 use Rattle.content_rules.proofs.DeleteObjectSlots.{from_at}
 use Rattle.content_rules.specs.DeleteObjectFound.{HasOthersIn, HasSelected, IsFrom, IsLoadDomain}

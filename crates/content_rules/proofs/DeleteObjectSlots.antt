@@ -6,9 +6,8 @@ use Rattle.std.proofs.lemmas.Bool.{and_from, and_parts, cases_Bool, cases_lt, eq
 use Rattle.std.proofs.lemmas.List.{get_or_past}
 use Rattle.card_types.proofs.EntryNames.{one_entry_slot}
 use Rattle.card_types.proofs.SameAid.{same_aid_decides}
-use Rattle.card_types.specs.AidOrder.{same_aid}
-use Rattle.card_types.specs.InOrder.{IsInOrder}
-use Rattle.card_types.specs.Slots.{held}
+use Rattle.card_types.specs.Aid.{same_aid}
+use Rattle.card_types.specs.Represents.{IsInOrder, held}
 use Rattle.card_types.specs.declared.tables.Entry.{Entry}
 use Rattle.card_types.specs.declared.tables.Tables.{Tables}
 use Rattle.policy_machine.specs.declared.channels.TheConstants.{CHANNELS}

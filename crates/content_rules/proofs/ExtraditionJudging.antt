@@ -5,8 +5,7 @@ use Rattle.card_types.proofs.FoundNames.{found_entry_named, found_file_named, no
 use Rattle.card_types.specs.Found.{aid_of}
 use Rattle.card_types.specs.Registry as registry
 use Rattle.card_types.specs.Registry.{Key}
-use Rattle.card_types.specs.Represents.{Represents}
-use Rattle.card_types.specs.Slots.{held}
+use Rattle.card_types.specs.Represents.{Represents, held}
 use Rattle.card_types.specs.Well.{IsDomainNamed}
 use Rattle.card_types.specs.declared.factory.TheConstants.{FACTORY_FILE, ISSUER}
 use Rattle.card_types.specs.declared.found.Found.{Found}
@@ -26,7 +25,7 @@ use Rattle.content_rules.specs.ExtraditionRequests.{IsExtraditionOf}
 use Rattle.content_rules.specs.declared.extradition.ExtraditionRequest.{ExtraditionRequest}
 use Rattle.policy_slots.proofs.HoldsTold.{not_told}
 use Rattle.policy_slots.proofs.ThingsFound.{entry_at, named_as}
-use Rattle.policy_slots.specs.Acting.{ActsIn}
+use Rattle.policy_slots.specs.StateShown.{ActsIn}
 
 abbrev Unfit : Option registry.Entry → Type 0
 Unfit o = MatchOption o ⊥ (λ entry. entry.life ≢ is_personalized)

@@ -3,11 +3,11 @@ use Rattle.std.proofs.Common.{◌≡◌, ◌++◌, Option, None, Some, refl, inl
 use Rattle.std.specs.Prelude.{map}
 use Rattle.std.specs.Option.{option_map}
 use Rattle.policy_machine.specs.Admission.{Admitted}
-use Rattle.policy_machine.specs.FirstFailing.{IsFirst}
+use Rattle.policy_machine.specs.Refusal.{IsFirst}
 use Rattle.policy_machine.specs.Load.{IsLoadOn, LoadFails, LoadingFails, block_of, block_rules, front_rules, last_rules, load_rules}
 use Rattle.policy_machine.specs.LoadBlocks.{Block, HasNoLength, HasNoRoom, HasOtherCount, HasOtherHash}
 use Rattle.policy_machine.specs.Management.{ManagementFails}
-use Rattle.policy_machine.specs.Volatile.{LoadSession}
+use Rattle.policy_machine.specs.State.{LoadSession}
 use Rattle.policy_machine.specs.declared.load.RuleLO.{RuleLO}
 use Rattle.policy_machine.specs.declared.management.RuleM.TheVariants.{M1, M2}
 use Rattle.policy_machine.specs.declared.load.RuleLO.TheVariants.{LO3, LO4, LO5, LO6}

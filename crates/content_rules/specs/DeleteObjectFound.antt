@@ -1,8 +1,8 @@
 -- For the code inside. What a DELETE of an object is to remove, and whether it may go, by slots.
 use Rattle.std.specs.Prelude.{◌≡◌, ◌≢◌, ◌⊎◌, ℕ, ◌<◌, ◌==◌, ◌&&◌, List, Bool, true, false, not, Option, None, Some, MatchOption}
-use Rattle.card_types.specs.AidOrder.{same_aid}
+use Rattle.card_types.specs.Aid.{same_aid}
 use Rattle.card_types.specs.Found.{aid_of}
-use Rattle.card_types.specs.Slots.{held}
+use Rattle.card_types.specs.Represents.{held}
 use Rattle.card_types.specs.declared.factory.TheConstants.{FACTORY_FILE}
 use Rattle.card_types.specs.declared.found.Found.{Found}
 use Rattle.card_types.specs.declared.found.Found.TheVariants.{Entry, File}

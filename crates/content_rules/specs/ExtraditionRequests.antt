@@ -3,8 +3,7 @@ use Rattle.std.specs.Prelude.{◌≡◌, ℕ, ◌≤◌, IsSome, List, Some, len
 use Rattle.apdu_core.specs.Apdu.{Apdu}
 use Rattle.card_types.specs.Found.{aid_of}
 use Rattle.card_types.specs.Registry.{Registry}
-use Rattle.card_types.specs.Represents.{Represents, domain_aid}
-use Rattle.card_types.specs.Slots.{held}
+use Rattle.card_types.specs.Represents.{Represents, domain_aid, held}
 use Rattle.card_types.specs.Well.{Well}
 use Rattle.card_types.specs.declared.found.Found.TheVariants.{Entry}
 use Rattle.card_types.specs.declared.tables.Tables.{Tables}

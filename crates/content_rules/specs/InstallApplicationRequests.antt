@@ -1,8 +1,8 @@
 -- For the code inside. What the code reads of an INSTALL [for install], and what it finds.
 use Rattle.std.specs.Prelude.{◌≡◌, ℕ, ◌≤◌, ◌==◌, ◌&&◌, List, Bool, false, not, Option, None, Some, MatchOption, ◌≢◌, length}
 use Rattle.apdu_core.specs.Apdu.{Apdu}
-use Rattle.card_types.specs.AidOrder.{same_aid}
-use Rattle.card_types.specs.First.{NoneFree}
+use Rattle.card_types.specs.Aid.{same_aid}
+use Rattle.card_types.specs.Search.{NoneFree}
 use Rattle.card_types.specs.Found.{aid_of}
 use Rattle.card_types.specs.Privileges.{bits_of, has}
 use Rattle.card_types.specs.Registry.{file_named}

@@ -1,6 +1,6 @@
 -- For the code inside. The load session that an INSTALL [for load] begins, and the one that a LOAD is for, as the code names it.
 use Rattle.std.specs.Prelude.{◌≡◌, ◌≢◌, ℕ, ◌==◌, List, [], ◌∷◌, Option, None, Some, if◌then◌else◌, length}
-use Rattle.card_types.specs.First.{NoneFree}
+use Rattle.card_types.specs.Search.{NoneFree}
 use Rattle.card_types.specs.Found.{aid_of}
 use Rattle.card_types.specs.declared.found.Found.{Found}
 use Rattle.card_types.specs.declared.found.Found.TheVariants.{Entry}
@@ -12,8 +12,7 @@ use Rattle.policy_machine.specs.declared.load.RuleLO.{RuleLO}
 use Rattle.policy_machine.specs.declared.load.RuleLO.TheVariants.{LO1, LO2}
 use Rattle.content_rules.specs.InstallLoadRequests.{IsLoadInstallOf}
 use Rattle.content_rules.specs.declared.install_load.LoadInstallRequest.{LoadInstallRequest}
-use Rattle.policy_slots.specs.Acting.{ForActing}
-use Rattle.policy_slots.specs.StateShown.{IsLoadNamed}
+use Rattle.policy_slots.specs.StateShown.{ForActing, IsLoadNamed}
 use Rattle.policy_slots.specs.declared.live.LoadName.{LoadName}
 
 -- The domain of the Executable Load File is in the slot, nothing has the file's AID, and there is room for another file.

@@ -2,7 +2,7 @@
 
 ghost use Rattle.std.specs.Prelude.{◌≡◌, ◌↔◌, ◌⊎◌, ◌==◌, ℕ, List, Some, IfErr, IfNone, IfOk, IfSome, IsTrue, length, refl, true};
 ghost use Rattle.card_types.specs.Found.{aid_of};
-ghost use Rattle.card_types.specs.InOrder.{IsInOrder};
+ghost use Rattle.card_types.specs.Represents.{IsInOrder};
 ghost use Rattle.policy_machine.proofs.DeleteObjectLaws.{deletion_judgeable};
 ghost use Rattle.policy_machine.specs.Admission.{Admitted};
 ghost use Rattle.policy_machine.specs.DeleteKey.{DeleteParameters};
@@ -13,8 +13,7 @@ ghost use Rattle.policy_machine.specs.declared.delete_object.RuleDO.TheVariants.
 ghost use Rattle.policy_machine.specs.ManagedForm.{command_form};
 ghost use Rattle.content_rules.specs.DeleteObjectFound.{FindsThing, HasNoneFrom, IsAlone, IsPartOutOfCharge, IsUnselected};
 ghost use Rattle.content_rules.specs.DeleteObjectRequests.{IsDeletionOf, IsDeletionRequest};
-ghost use Rattle.policy_slots.specs.Acting.{ActsIn, ForActing, ForActingLive};
-ghost use Rattle.policy_slots.specs.StateShown.{RepresentsState};
+ghost use Rattle.policy_slots.specs.StateShown.{ActsIn, ForActing, ForActingLive, RepresentsState};
 
 use crate::extradition::is_fixed;
 use crate::in_use::{has_stranger, has_user, is_in_use, is_source};

@@ -2,9 +2,8 @@
 
 ghost use Rattle.std.specs.Prelude.{◌≡◌, ◌↔◌, ◌⊎◌, ℕ, List, Some, IfErr, IfNone, IfOk, IfSome, IsTrue, refl, true};
 ghost use Rattle.card_types.specs.Found.{aid_of};
-ghost use Rattle.card_types.specs.InOrder.{IsInOrder};
+ghost use Rattle.card_types.specs.Represents.{IsInOrder, Represents};
 ghost use Rattle.card_types.specs.Privileges.{authorized_management, delegated_management};
-ghost use Rattle.card_types.specs.Represents.{Represents};
 ghost use Rattle.card_types.specs.declared.factory.TheConstants.{FACTORY_FILE, ISSUER};
 ghost use Rattle.card_types.specs.declared.found.Found.TheVariants.{Entry};
 ghost use Rattle.policy_machine.proofs.ExtraditionLaws.{extradition_judgeable};
@@ -16,7 +15,7 @@ ghost use Rattle.policy_machine.specs.Malformed.{IsRefusedBy};
 ghost use Rattle.policy_machine.specs.ManagedForm.{command_form};
 ghost use Rattle.policy_machine.specs.declared.extradition.RuleEX.TheVariants.{EX5, EX7};
 ghost use Rattle.content_rules.specs.ExtraditionRequests.{FindsMove, IsExtraditionOf, IsExtraditionRequest};
-ghost use Rattle.policy_slots.specs.Acting.{ActsIn};
+ghost use Rattle.policy_slots.specs.StateShown.{ActsIn};
 
 use crate::install_application::is_factory_file;
 use crate::install_fields::read_fields;

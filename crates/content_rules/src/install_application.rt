@@ -3,13 +3,11 @@
 ghost use Rattle.std.specs.Prelude.{◌≡◌, ◌↔◌, ◌≢◌, ◌⊎◌, ◌&&◌, ℕ, List, None, Some, IfErr, IfNone, IfOk, IfSome, IsTrue, refl, true};
 ghost use Rattle.std.specs.List.{list_any};
 ghost use Rattle.bertlv.specs.Spelling.{AreElements, Element};
-ghost use Rattle.card_types.specs.AidOrder.{same_aid};
+ghost use Rattle.card_types.specs.Aid.{same_aid};
 ghost use Rattle.card_types.specs.Found.{aid_of};
-ghost use Rattle.card_types.specs.InOrder.{IsInOrder};
+ghost use Rattle.card_types.specs.Represents.{IsInOrder, Represents, file_of, held};
 ghost use Rattle.card_types.specs.Privileges.{authorized_management, delegated_management, has};
 ghost use Rattle.card_types.specs.Registry.{Entry, Registry, file_named};
-ghost use Rattle.card_types.specs.Represents.{Represents, file_of};
-ghost use Rattle.card_types.specs.Slots.{held};
 ghost use Rattle.card_types.specs.Well.{Well, has_domain_privilege as has_domain_privilege_by};
 ghost use Rattle.card_types.specs.declared.factory.TheConstants.{FACTORY_FILE, FACTORY_MODULE};
 ghost use Rattle.card_types.specs.declared.found.Found.{Found as Thing};
@@ -24,8 +22,7 @@ ghost use Rattle.policy_machine.specs.Malformed.{IsRefusedBy};
 ghost use Rattle.policy_machine.specs.Management.{acting};
 ghost use Rattle.policy_machine.specs.ManagedForm.{command_form};
 ghost use Rattle.content_rules.specs.InstallApplicationRequests.{FindsSource, IsInstallOf, IsInstallRequest, IsOutOfCharge, exceeds_by, is_loaded_as};
-ghost use Rattle.policy_slots.specs.Acting.{ActsIn, ForActing};
-ghost use Rattle.policy_slots.specs.StateShown.{IsLoadNamed};
+ghost use Rattle.policy_slots.specs.StateShown.{ActsIn, ForActing, IsLoadNamed};
 
 use crate::install_fields::read_fields;
 use bertlv::read;

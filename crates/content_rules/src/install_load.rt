@@ -4,7 +4,7 @@ ghost use Rattle.std.specs.Prelude.{◌≡◌, ◌↔◌, ◌≤◌, ◌⊎◌, 
 ghost use Rattle.std.specs.List.{flat_map};
 ghost use Rattle.card_types.specs.Aid.{IsAid};
 ghost use Rattle.card_types.specs.Found.{aid_of};
-ghost use Rattle.card_types.specs.InOrder.{IsInOrder};
+ghost use Rattle.card_types.specs.Represents.{IsInOrder};
 ghost use Rattle.card_types.specs.declared.found.Found.TheVariants.{Entry};
 ghost use Rattle.policy_machine.proofs.InstallLoadLaws.{load_install_judgeable};
 ghost use Rattle.policy_machine.specs.Admission.{Admitted};
@@ -14,8 +14,7 @@ ghost use Rattle.policy_machine.specs.Sound.{IsHashLength};
 ghost use Rattle.policy_machine.specs.declared.install_load.RuleIL.TheVariants.{IL4, IL6};
 ghost use Rattle.content_rules.specs.InstallLoadRequests.{IsLoadInstallOf, IsLoadInstallRequest, NamesDomain, load_data_of};
 ghost use Rattle.content_rules.specs.LoadFound.{FindsDomain};
-ghost use Rattle.policy_slots.specs.Acting.{ActsIn};
-ghost use Rattle.policy_slots.specs.StateShown.{IsLoadNamed};
+ghost use Rattle.policy_slots.specs.StateShown.{ActsIn, IsLoadNamed};
 ghost use Rattle.tokens_receipts.specs.Receipt.{with_length};
 
 use crate::install_fields::{front, read_field};

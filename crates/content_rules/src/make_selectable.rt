@@ -1,7 +1,7 @@
 //! INSTALL [for make selectable] (GlobalPlatform Card Specification 2.3.1, 9.3.3 and 11.5).
 
 ghost use Rattle.std.specs.Prelude.{◌≡◌, ◌↔◌, ◌≢◌, IfErr, IfNone, IfOk, IfSome, IsTrue, MatchOption, Option, refl, true};
-ghost use Rattle.card_types.specs.Slots.{held};
+ghost use Rattle.card_types.specs.Represents.{held};
 ghost use Rattle.policy_machine.proofs.MakeSelectableLaws.{selectable_judgeable};
 ghost use Rattle.policy_machine.specs.InstallFields.{InstallData};
 ghost use Rattle.policy_machine.specs.Malformed.{IsRefusedBy};

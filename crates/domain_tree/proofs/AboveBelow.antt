@@ -8,8 +8,7 @@ use Rattle.card_types.specs.Registry.{Registry, domain_of}
 use Rattle.card_types.specs.RegistryChange.{moved}
 use Rattle.domain_tree.proofs.Compared.{above_further, both_ways}
 use Rattle.domain_tree.proofs.DomainsStay.{domains_after_move}
-use Rattle.domain_tree.specs.Above.{Above}
-use Rattle.domain_tree.specs.AboveLaws.{AboveBelowMoved}
+use Rattle.domain_tree.specs.Above.{Above, AboveBelowMoved}
 
 module _ {A : Type 0} where
   -- the path comes to this thing at its end alone, if at all

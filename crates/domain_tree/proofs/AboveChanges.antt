@@ -9,7 +9,7 @@ use Rattle.card_types.proofs.LeastOfList.{found_fits}
 use Rattle.card_types.proofs.MovedThing.{step_thing}
 use Rattle.card_types.proofs.NamedThings.{aid_cases, domain_leads}
 use Rattle.card_types.proofs.RemovedThing.{none_steps}
-use Rattle.card_types.specs.AidOrder.{same_aid}
+use Rattle.card_types.specs.Aid.{same_aid}
 use Rattle.card_types.specs.ChangeLaws.{IsOfCard, MayAddEntry, MayMove}
 use Rattle.card_types.specs.Hierarchy.{IsPath}
 use Rattle.card_types.specs.Registry.{Entry, Registry, domain_of, entry_named, is_domain}
@@ -18,8 +18,7 @@ use Rattle.card_types.specs.Well.{IsDomainNamed, IsWellEntry}
 use Rattle.domain_tree.proofs.DomainsStay.{domains_after_change, domains_after_entry, domains_after_move}
 use Rattle.domain_tree.proofs.LinesStay.{above_while, same_above}
 use Rattle.domain_tree.proofs.Paths.{path_on_line, root_alone}
-use Rattle.domain_tree.specs.Above.{Above}
-use Rattle.domain_tree.specs.AboveLaws.{AboveAdded, AboveChanged, AboveMoved, AboveOthersOfAdded, AboveOthersOfMoved, AboveRemoved, NoneAboveRoot}
+use Rattle.domain_tree.specs.Above.{Above, AboveAdded, AboveChanged, AboveMoved, AboveOthersOfAdded, AboveOthersOfMoved, AboveRemoved, NoneAboveRoot}
 
 module _ {A : Type 0} where
   -- above one that steps to another are that one and those above it

@@ -4,8 +4,7 @@ use Rattle.std.specs.Prelude.{map}
 use Rattle.card_types.specs.Hierarchy.{IsPath}
 use Rattle.card_types.specs.Registry as registry
 use Rattle.card_types.specs.Registry.{domain_of}
-use Rattle.card_types.specs.Represents.{Represents, domain_aid, domain_slot}
-use Rattle.card_types.specs.Slots.{held}
+use Rattle.card_types.specs.Represents.{Represents, domain_aid, domain_slot, held}
 use Rattle.card_types.specs.Well.{Well}
 use Rattle.card_types.specs.declared.tables.Entry.{Entry}
 use Rattle.card_types.specs.declared.tables.Tables.{Tables}

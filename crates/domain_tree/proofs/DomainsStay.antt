@@ -9,7 +9,7 @@ use Rattle.card_types.proofs.MappedEntries.{find_mapped}
 use Rattle.card_types.proofs.MovedThing.{step_other}
 use Rattle.card_types.proofs.NamedThings.{aid_differs, unfound_kept}
 use Rattle.card_types.proofs.RemovedThing as removed
-use Rattle.card_types.specs.AidOrder.{same_aid}
+use Rattle.card_types.specs.Aid.{same_aid}
 use Rattle.card_types.specs.Registry.{Entry, Registry, domain_of, entry_named}
 use Rattle.card_types.specs.RegistryChange.{with_entries, without_applications}
 use Rattle.domain_tree.specs.LineLaws.{DomainsAfterApplications, DomainsAfterChange, DomainsAfterEntry, DomainsAfterEntryAdded, DomainsAfterMove}

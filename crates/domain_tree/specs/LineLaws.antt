@@ -5,8 +5,7 @@ use Rattle.card_types.specs.Hierarchy.{IsLine}
 use Rattle.card_types.specs.Registry.{Entry, Registry, domain_of, entry_named}
 use Rattle.card_types.specs.RegistryChange.{IsEntryAdded, moved, with_entries, without_applications, without_entry}
 use Rattle.card_types.specs.Well.{IsDomainNamed}
-use Rattle.domain_tree.specs.Above.{IsFirstAbove, NoneAbove}
-use Rattle.domain_tree.specs.AboveLaws.{IsAboveIn}
+use Rattle.domain_tree.specs.Above.{IsFirstAbove, NoneAbove, IsAboveIn}
 
 -- of two domains above one thing, one is above the other, unless they are one
 abbrev pub AboveCompared : Type 0

@@ -1,8 +1,7 @@
 -- For the code inside. Lines of domains by slots.
 use Rattle.std.specs.Prelude.{◌≡◌, ℕ, List, Option, Some}
 use Rattle.card_types.specs.Hierarchy.{IsLine}
-use Rattle.card_types.specs.Represents.{domain_slot}
-use Rattle.card_types.specs.Slots.{held}
+use Rattle.card_types.specs.Represents.{domain_slot, held}
 use Rattle.card_types.specs.declared.tables.Entry.{Entry}
 
 -- each entry has a line up to a root, which is its own domain

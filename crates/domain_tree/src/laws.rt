@@ -1,6 +1,6 @@
 //! The laws of what is above what, also after a change of a registry, as functions that do nothing when they run.
 
-ghost use Rattle.domain_tree.specs.AboveLaws.{AboveAdded, AboveBelowMoved, AboveChanged, AboveMoved, AboveOthersOfAdded, AboveOthersOfMoved, AboveRemoved, NoneAboveRoot};
+ghost use Rattle.domain_tree.specs.Above.{AboveAdded, AboveBelowMoved, AboveChanged, AboveMoved, AboveOthersOfAdded, AboveOthersOfMoved, AboveRemoved, NoneAboveRoot};
 ghost use Rattle.domain_tree.specs.LineLaws.{AboveCompared, AboveDecided, AboveFurther, AboveStays, DomainsAfterApplications, DomainsAfterChange, DomainsAfterEntry, DomainsAfterEntryAdded, DomainsAfterMove, FirstAboveDecided, LineStays, NotAboveEachOther};
 
 /// After an entry is added.

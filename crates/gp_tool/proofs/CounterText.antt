@@ -1,9 +1,7 @@
 -- The sequence counter of the Issuer Security Domain as text.
 use Rattle.std.proofs.Common.{◌≡◌, List, None, Option, Some, refl}
 use Rattle.std.specs.Prelude.{MatchOption}
-use Rattle.card_types.specs.Layout.{HasIssuer}
-use Rattle.card_types.specs.Represents.{domain_aid}
-use Rattle.card_types.specs.Slots.{held}
+use Rattle.card_types.specs.Represents.{HasIssuer, domain_aid, held}
 use Rattle.card_types.specs.declared.factory.TheConstants.{ISSUER}
 use Rattle.card_types.specs.declared.tables.Entry.{Entry}
 use Rattle.card_types.specs.declared.tables.TheConstants.{ISSUER_SLOT}

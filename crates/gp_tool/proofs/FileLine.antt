@@ -7,8 +7,7 @@ use Rattle.card_check.proofs.Counting.{length_of_pages}
 use Rattle.card_check.specs.IsCard.{HasPages, IsInLoadPages, pages_named}
 use Rattle.card_core.specs.Kept.{AreCards}
 use Rattle.card_types.proofs.Shows.{used_from_held}
-use Rattle.card_types.specs.Represents.{domain_aid, file_of, used}
-use Rattle.card_types.specs.Slots.{held}
+use Rattle.card_types.specs.Represents.{domain_aid, file_of, used, held}
 use Rattle.card_types.specs.declared.limits.TheConstants.{FILE_LIMIT}
 use Rattle.card_types.specs.declared.tables.Entry.{Entry}
 use Rattle.card_types.specs.declared.tables.LoadFile.{LoadFile}

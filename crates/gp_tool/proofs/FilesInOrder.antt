@@ -9,8 +9,8 @@ use Rattle.std.specs.declared.cmp.Ordering.{Ordering}
 use Rattle.std.proofs.lemmas.Cmp.{nat_list_cmp_total, on_total}
 use Rattle.card_types.proofs.FileNames.{least_file, no_file}
 use Rattle.card_types.proofs.LeastOfList.{sorted_by_name}
-use Rattle.card_types.specs.AidOrder.{aid_order}
-use Rattle.card_types.specs.Least.{IsLeast, NoneFits}
+use Rattle.card_types.specs.Aid.{aid_order}
+use Rattle.card_types.specs.Search.{IsLeast, NoneFits}
 use Rattle.card_types.specs.Registry as registry
 use Rattle.card_types.specs.Represents.{Represents, file_of}
 use Rattle.card_types.specs.declared.tables.LoadFile.{LoadFile}

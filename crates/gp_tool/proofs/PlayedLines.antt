@@ -5,12 +5,11 @@ use Rattle.flash_core.specs.declared.flash.Flash.{Ghosts as Flash}
 use Rattle.script_tool.specs.Host.{Host}
 use Rattle.script_tool.specs.HostLines.{is_difference}
 use Rattle.script_tool.specs.Kept.{RepresentsHost}
-use Rattle.script_tool.specs.Kind.{kind_of}
+use Rattle.script_tool.specs.Printed.{kind_of, Printed, Nothing, Reply, Opened, Cryptogram, Said, Differs, printed_text, status_printed}
 use Rattle.script_tool.specs.Kinds.{is_difference_kind, prints_kind}
 use Rattle.script_tool.proofs.AnswerKinds.{RefusesForm, differs_as}
 use Rattle.script_tool.specs.Line.{HasNoForm, SaysLine}
 use Rattle.script_tool.specs.Play.{playing, remembering}
-use Rattle.script_tool.specs.Printed.{Printed, Nothing, Reply, Opened, Cryptogram, Said, Differs, printed_text, status_printed}
 use Rattle.script_tool.specs.Quiet.{is_quiet}
 use Rattle.script_tool.specs.declared.host_state.HostState.{HostState}
 use Rattle.script_lines.specs.declared.line.ScriptLine.{ScriptLine}

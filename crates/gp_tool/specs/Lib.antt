@@ -17,7 +17,6 @@ pub mod LinesApart
 pub mod Listing
 pub mod Mill
 pub mod Milling
-pub mod Read
 pub mod Replay
 pub mod Replies
 pub mod RunCause

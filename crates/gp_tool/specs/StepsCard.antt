@@ -6,9 +6,8 @@ use Rattle.policy_machine.specs.State.{State}
 use Rattle.policy_machine.specs.Step.{Outcome, Step}
 use Rattle.script_tool.specs.Host.{Host}
 use Rattle.script_tool.specs.Kept.{RepresentsHost}
-use Rattle.script_tool.specs.Kind.{kind_of}
+use Rattle.script_tool.specs.Printed.{kind_of, Printed, printed_text, status_printed}
 use Rattle.script_tool.specs.Play.{playing, remembering}
-use Rattle.script_tool.specs.Printed.{Printed, printed_text, status_printed}
 use Rattle.script_tool.specs.Quiet.{is_quiet}
 use Rattle.script_tool.specs.Talk.{Ends, Event, Goes, Sends, Talk}
 use Rattle.script_tool.specs.declared.host_state.HostState.{HostState}

@@ -2,8 +2,7 @@
 
 ghost use Rattle.std.specs.Prelude.{◌≡◌, ◌≤◌, ◌<◌, ◌*◌, ℕ, List, length, take, codes, IsTrue, ◌↔◌, IfSome, IfNone, IfOk, OnErr, All, Ok, MatchOption};
 ghost use Rattle.hex.specs.Hex.{decode_of};
-ghost use Rattle.gp_tool.specs.Form.{SpellsInputs, IsForCard};
-ghost use Rattle.gp_tool.specs.Read.{FitsRoom, inputs_of};
+ghost use Rattle.gp_tool.specs.Form.{SpellsInputs, IsForCard, FitsRoom, inputs_of};
 
 use io_edge::LINE_LIMIT;
 use script_tool::says_nothing;

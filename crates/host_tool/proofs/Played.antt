@@ -8,12 +8,11 @@ use Rattle.line_runs.specs.declared.taker.Taking.{Taking}
 use Rattle.line_runs.specs.declared.taker.Taking.TheVariants.{Taken, Failed}
 use Rattle.script_tool.specs.Host.{Host}
 use Rattle.script_tool.specs.HostLines.{HostAsks, HostPlays, is_difference, text_line}
-use Rattle.script_tool.specs.Kind.{kind_of}
+use Rattle.script_tool.specs.Printed.{kind_of, Printed, Nothing, Reply, Opened, Cryptogram, Said, Differs, printed_text, status_printed}
 use Rattle.script_tool.specs.Kinds.{is_difference_kind}
 use Rattle.script_tool.proofs.AnswerKinds.{differs_as}
 use Rattle.script_tool.specs.Line.{HasNoForm, SaysLine}
 use Rattle.script_tool.specs.Play.{playing, remembering}
-use Rattle.script_tool.specs.Printed.{Printed, Nothing, Reply, Opened, Cryptogram, Said, Differs, printed_text, status_printed}
 use Rattle.script_tool.specs.Link.{Breaks, Conveys}
 use Rattle.script_tool.specs.Played.{IsBroken}
 use Rattle.script_tool.specs.Quiet.{is_quiet}

@@ -9,11 +9,10 @@ use Rattle.io_edge.specs.declared.line.TheConstants.{INPUT_LIMIT, LINE_LIMIT}
 use Rattle.line_runs.proofs.ComeFirst.{come_more, lines_come}
 use Rattle.line_runs.proofs.Passed.{taken_all}
 use Rattle.line_runs.specs.Ends.{Course, Ends, TakerFailsNext, TakesLines}
-use Rattle.line_runs.specs.Going.{Going}
+use Rattle.line_runs.specs.Turn.{Going, EndsWith, FailsOn, GoesOn, TakesNext, total}
 use Rattle.line_runs.specs.Outside.{Outside, bad_line}
 use Rattle.line_runs.specs.Taken.{ComeFirst, IsBadLine, IsShortCut, TakesNoMore, room_ahead}
 use Rattle.line_runs.specs.Taker.{Taker, Takes}
-use Rattle.line_runs.specs.Turn.{EndsWith, FailsOn, GoesOn, TakesNext, total}
 use Rattle.line_runs.specs.declared.ending.LinesEnd.{LinesEnd}
 use Rattle.line_runs.specs.declared.ending.LinesEnd.TheVariants.{Finished, BadLine, Failed, ReadFault, WriteFault, InputTooLong}
 

@@ -3,5 +3,4 @@ pub mod Taken
 pub mod Taker
 pub mod Ends
 pub mod Exit
-pub mod Going
 pub mod Turn

@@ -1,9 +1,11 @@
 -- For the code inside. What one more line does, and how the taking of lines ends with it.
+use Rattle.std.specs.List.{AllByRecursion}
 use Rattle.std.specs.Prelude.{◌≡◌, ◌⊎◌, ℕ, ◌+◌, ◌<◌, ◌≤◌, List, [], ◌++◌, length, take, None}
 use Rattle.io_edge.specs.Lines.{Reading, IsNextLine, IsWithin, ahead, room}
-use Rattle.io_edge.specs.declared.line.TheConstants.{LINE_LIMIT}
-use Rattle.line_runs.specs.Outside.{Outside, bad_line}
-use Rattle.line_runs.specs.Taken.{HoldsNoLine, IsBadLine, IsShortCut, TakesNoMore}
+use Rattle.io_edge.specs.declared.line.TheConstants.{LINE_LIMIT, INPUT_LIMIT}
+use Rattle.line_runs.specs.Ends.{TakesLines}
+use Rattle.line_runs.specs.Outside.{Outside, bad_line, Wrote}
+use Rattle.line_runs.specs.Taken.{HoldsNoLine, IsBadLine, IsShortCut, TakesNoMore, ComeFirst}
 use Rattle.line_runs.specs.Taker.{Taker, Takes}
 use Rattle.line_runs.specs.declared.ending.LinesEnd.{LinesEnd}
 use Rattle.line_runs.specs.declared.ending.LinesEnd.TheVariants.{Finished, BadLine, Failed, ReadFault, WriteFault, InputTooLong}
@@ -97,3 +99,16 @@ EndsWith does reads writes at at' old before now WriteFault =
     ⊎ ((at' ≡ at) × RefusesNext does reads writes at old before now WriteFault)
     ⊎ FailsOn does reads at at' old before now (Cut writes before now)
 EndsWith does reads writes at at' old before now Failed = FailsOn does reads at at' old before now (Whole writes before now)
+
+-- The taking of lines that goes on, between two lines.
+
+-- The lines that were given have their texts written, and the reading stands after them.
+pub record Going {T : Type 0} (does : Taker T) (reads writes : Type 0) (first at : T) (before now : Outside) (reading : Reading) : Type 0 where
+  pub given : List (List ℕ)
+  pub texts : List (List ℕ)
+  pub number : reading.number ≡ length given
+  pub passed : reads → reading.passed + length (ahead reading now.source.left) ≡ length before.source.left
+  pub fits : AllByRecursion (λ line. length line ≤ LINE_LIMIT) given
+  pub played : TakesLines does.takes first given at texts
+  pub reached : reads → ComeFirst INPUT_LIMIT before.source.left given (ahead reading now.source.left)
+  pub written : Wrote writes texts before now

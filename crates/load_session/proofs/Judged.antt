@@ -29,7 +29,7 @@ use Rattle.load_session.specs.declared.block.BlockStop.TheVariants.{FirstBlock, 
 use Rattle.load_session.specs.declared.block.Taken.{Taken}
 use Rattle.load_session.specs.declared.session.LoadSession.{LoadSession}
 use Rattle.policy_machine.specs.LoadBlocks.{Block, BringsBytes, HasNoLength, HasNoRoom, HasOtherCount, HasOtherHash, HaveHash, pages_used}
-use Rattle.policy_machine.specs.Volatile as volatile
+use Rattle.policy_machine.specs.State as volatile
 
 -- the bytes from one on are those up to the end
 pub up_to_end : (bytes : List ℕ) (start : ℕ) → take (length bytes - start) (drop start bytes) ≡ drop start bytes

@@ -9,7 +9,7 @@ use Rattle.load_session.specs.declared.block.BlockStop.{BlockStop}
 use Rattle.load_session.specs.declared.block.BlockStop.TheVariants.{FirstBlock, NoRoom, Count, Hash}
 use Rattle.load_session.specs.declared.session.LoadSession.{LoadSession}
 use Rattle.policy_machine.specs.LoadBlocks.{Block, HasNoLength, HasNoRoom, HasOtherCount, HasOtherHash}
-use Rattle.policy_machine.specs.Volatile as volatile
+use Rattle.policy_machine.specs.State as volatile
 
 -- it is so of each registry that the tables say and each load session that is stood for
 abbrev pub ForEachSaid : Tables → LoadSession → (Registry → volatile.LoadSession → Type 0) → Type 0

@@ -8,7 +8,7 @@ use Rattle.load_session.specs.Loaded.{IsWhole, loaded, numbers}
 use Rattle.load_session.specs.Session.{IsReady, RepresentsLoad, pages_taken, load_slot}
 use Rattle.load_session.specs.declared.load_write.LoadWrite.{LoadWrite}
 use Rattle.load_session.specs.declared.session.LoadSession.{LoadSession}
-use Rattle.policy_machine.specs.Volatile as volatile
+use Rattle.policy_machine.specs.State as volatile
 use Rattle.rec_store.specs.Reopens.{IsFree}
 
 -- no Executable Load File took a page of the session

@@ -12,7 +12,7 @@ use Rattle.load_session.specs.Paged.{IsOpen, bytes_in, size_of}
 use Rattle.load_session.specs.declared.block.Taken.{Taken}
 use Rattle.load_session.specs.declared.session.LoadSession.{LoadSession}
 use Rattle.policy_machine.specs.LoadBlocks.{Block, BringsBytes}
-use Rattle.policy_machine.specs.Volatile as volatile
+use Rattle.policy_machine.specs.State as volatile
 
 -- the AID, the slot of the security domain, how many blocks were taken, and the load pages that were
 abbrev pub load_aid : LoadSession → List ℕ

@@ -8,7 +8,7 @@ ghost use Rattle.load_session.specs.Loaded.{AreNewPages, loaded, numbers};
 ghost use Rattle.load_session.specs.Pages.{AreOwn};
 ghost use Rattle.load_session.specs.Session.{IsAfterBlock, IsReady, IsBlockTaken, IsWholeFile, RepresentsAfter, RepresentsLoad, RepresentsWhole, load_aid, blocks_taken, len_of, pages_taken, load_slot};
 ghost use Rattle.policy_machine.specs.LoadBlocks.{with_block};
-ghost use Rattle.policy_machine.specs.Volatile.{LoadSession as Load};
+ghost use Rattle.policy_machine.specs.State.{LoadSession as Load};
 ghost use Rattle.rec_store.specs.StoredTables.{AreRoomy};
 
 use crate::block::Taken;

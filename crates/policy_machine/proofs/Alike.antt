@@ -9,8 +9,7 @@ use Rattle.policy_machine.specs.Delegation.{Approval, ReceiptFails, TokenFails}
 use Rattle.policy_machine.specs.GetStatus.{place_before}
 use Rattle.policy_machine.specs.Management.{ManagementFails, acting}
 use Rattle.policy_machine.specs.OwnRules.{AreAlike, selection_of, selections}
-use Rattle.policy_machine.specs.State.{State}
-use Rattle.policy_machine.specs.Volatile.{Channel, LoadSession, Nothing, Place, Volatile, channel_at, selected_of, selected_on}
+use Rattle.policy_machine.specs.State.{State, Channel, LoadSession, Nothing, Place, Volatile, channel_at, selected_of, selected_on}
 use Rattle.policy_machine.specs.declared.delegation.RuleRC.{RuleRC}
 use Rattle.policy_machine.specs.declared.delegation.RuleRC.TheVariants.{RC1}
 use Rattle.policy_machine.specs.declared.delegation.RuleTK.{RuleTK}

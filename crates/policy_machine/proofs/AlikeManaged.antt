@@ -15,7 +15,7 @@ use Rattle.policy_machine.specs.MakeSelectable.{managed_selectable}
 use Rattle.policy_machine.specs.ManagedForm.{AskedFails, CommandAsks, JudgedFails, JudgedForm, command_form}
 use Rattle.policy_machine.specs.OwnRules.{selection_of}
 use Rattle.policy_machine.specs.StoreData.{managed_store_data}
-use Rattle.policy_machine.specs.Volatile.{Channel, channel_at}
+use Rattle.policy_machine.specs.State.{Channel, channel_at}
 use Rattle.policy_machine.specs.declared.card_status.RuleSC.TheVariants.{SC1}
 use Rattle.policy_machine.specs.declared.delete_key.RuleDK.TheVariants.{DK1}
 use Rattle.policy_machine.specs.declared.delete_object.RuleDO.{RuleDO}

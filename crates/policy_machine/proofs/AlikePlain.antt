@@ -9,7 +9,7 @@ use Rattle.policy_machine.specs.InitializeUpdate.{InitializeUpdateFails, initial
 use Rattle.policy_machine.specs.ManageChannel.{is_closed, lowest_closed, manage_channel}
 use Rattle.policy_machine.specs.OwnRules.{selection_of}
 use Rattle.policy_machine.specs.Select.{SelectFails, select}
-use Rattle.policy_machine.specs.Volatile.{Channel}
+use Rattle.policy_machine.specs.State.{Channel}
 use Rattle.policy_machine.specs.declared.get_data.RuleGD.TheVariants.{GD1}
 use Rattle.policy_machine.specs.declared.get_status.RuleGS.TheVariants.{GS1}
 use Rattle.policy_machine.specs.declared.initialize_update.RuleIU.TheVariants.{IU1}

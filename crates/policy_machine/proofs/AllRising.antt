@@ -12,8 +12,7 @@ use Rattle.policy_machine.specs.GetStatus.{get_status}
 use Rattle.policy_machine.specs.InstallLoad.{install_load}
 use Rattle.policy_machine.specs.Load.{EndsLoad, GoesOn, LoadConfirms, LoadEffect, about_load, loading}
 use Rattle.policy_machine.specs.LoadBlocks.{with_block}
-use Rattle.policy_machine.specs.State.{Effect}
-use Rattle.policy_machine.specs.Volatile.{LoadSession}
+use Rattle.policy_machine.specs.State.{Effect, LoadSession}
 use Rattle.policy_machine.proofs.AllLawful.{HoldsOfEach, of_beside, of_listed, of_none, of_only}
 use Rattle.policy_machine.proofs.AnsweredRises.{AllRise, answered_rises, none_rises}
 use Rattle.policy_machine.proofs.CardStatusLaws.{managed_card_status_lawful}

@@ -4,7 +4,7 @@ use Rattle.std.specs.Prelude.{MatchOption}
 use Rattle.std.proofs.lemmas.List.Elements.{All-contains}
 use Rattle.card_types.proofs.LeastOfList.{found_fits}
 use Rattle.card_types.proofs.LifeChanges.{receipts_keep}
-use Rattle.card_types.specs.AidOrder.{same_aid}
+use Rattle.card_types.specs.Aid.{same_aid}
 use Rattle.card_types.specs.ChangeLaws.{IsOfCard}
 use Rattle.card_types.specs.Registry.{Entry, Registry, entry_named}
 use Rattle.card_types.specs.RegistryChange.{with_receipts}
@@ -17,8 +17,7 @@ use Rattle.policy_machine.specs.Admission.{Admitted}
 use Rattle.policy_machine.specs.Delegation.{IsAnswered, IsConfirmed, ReceiptFails, unique_data}
 use Rattle.policy_machine.specs.Management.{acting}
 use Rattle.policy_machine.specs.Sound.{Fits}
-use Rattle.policy_machine.specs.State.{Effect}
-use Rattle.policy_machine.specs.Volatile.{Volatile}
+use Rattle.policy_machine.specs.State.{Effect, Volatile}
 use Rattle.policy_machine.specs.declared.delegation.RuleRC.TheVariants.{RC1}
 
 -- there is room for another number

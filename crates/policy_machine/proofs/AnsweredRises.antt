@@ -5,7 +5,7 @@ use Rattle.card_types.proofs.LeastOfList.{found_fits}
 use Rattle.card_types.proofs.MappedEntries.{find_mapped}
 use Rattle.card_types.proofs.NamedThings.{aid_cases, aid_differs}
 use Rattle.card_types.proofs.SameAid.{same_aid_decides}
-use Rattle.card_types.specs.AidOrder.{same_aid}
+use Rattle.card_types.specs.Aid.{same_aid}
 use Rattle.card_types.specs.Privileges.{receipt_generation}
 use Rattle.card_types.specs.Registry.{Entry, Key, Registry, entry_named}
 use Rattle.card_types.specs.RegistryChange.{with_receipts}

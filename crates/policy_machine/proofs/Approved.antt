@@ -5,7 +5,7 @@ use Rattle.domain_tree.proofs.Paths.{one_first_above}
 use Rattle.tokens_receipts.specs.Token.{token}
 use Rattle.policy_machine.specs.Admission.{Admitted}
 use Rattle.policy_machine.specs.Delegation.{Approval, IsNearestHolder, IsVerifier, NoVerifier, ReceiptFails, TokenFails, has_with_key, token_rules}
-use Rattle.policy_machine.specs.FirstFailing.{IsFirst}
+use Rattle.policy_machine.specs.Refusal.{IsFirst}
 use Rattle.policy_machine.specs.Management.{acting}
 use Rattle.policy_machine.specs.declared.delegation.RuleRC.{RuleRC}
 use Rattle.policy_machine.specs.declared.delegation.RuleRC.TheVariants.{RC1}

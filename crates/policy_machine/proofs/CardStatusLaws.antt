@@ -9,7 +9,7 @@ use Rattle.policy_machine.specs.Admission.{Admitted}
 use Rattle.policy_machine.proofs.SameThings.{same_fits}
 use Rattle.policy_machine.specs.CardStatus.{CardIsSet, managed_card_status}
 use Rattle.card_types.specs.Registry.{Registry}
-use Rattle.policy_machine.specs.JudgedForms.{IsJudgeable}
+use Rattle.policy_machine.specs.ManagedForm.{IsJudgeable}
 use Rattle.policy_machine.proofs.ManagedLawful.{IsManagedLawful, IsPassedFor, MayFollow, may_follow}
 use Rattle.policy_machine.proofs.Lawful.{sound_of_card}
 

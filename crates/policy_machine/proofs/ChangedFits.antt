@@ -7,7 +7,7 @@ use Rattle.card_types.proofs.MappedEntries.{KeepsNames, changed, domain_still, e
 use Rattle.card_types.specs.Registry.{Entry, LoadFile, Registry, entry_named}
 use Rattle.card_types.specs.RegistryChange.{with_entries}
 use Rattle.policy_machine.specs.Sound.{Fits}
-use Rattle.policy_machine.specs.Volatile.{LoadSession, Volatile}
+use Rattle.policy_machine.specs.State.{LoadSession, Volatile}
 use Rattle.policy_machine.proofs.FitsKept.{LeavesRoom, fits_kept, same_files}
 
 -- also where other Executable Load Files leave a load session its room

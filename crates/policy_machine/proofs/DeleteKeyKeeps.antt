@@ -2,11 +2,10 @@
 use Rattle.std.proofs.Common.{ℕ, List, [], arith}
 use Rattle.std.specs.Prelude.{not}
 use Rattle.std.proofs.lemmas.List.Sorted.{IsPermutation-refl}
-use Rattle.card_types.specs.AidOrder.{same_aid}
-use Rattle.card_types.specs.Ascending.{IsAscending, counter_order, key_order}
-use Rattle.card_types.specs.Registry.{Registry}
+use Rattle.card_types.specs.Aid.{same_aid}
+use Rattle.card_types.specs.Registry.{IsAscending, counter_order, key_order, Registry}
 use Rattle.card_types.specs.Well.{Well}
-use Rattle.policy_machine.specs.KeyVersions.{counters_but, is_counter_numbered, is_key_numbered, keys_but, with_keys}
+use Rattle.policy_machine.specs.KeySets.{counters_but, is_counter_numbered, is_key_numbered, keys_but, with_keys}
 use Rattle.policy_machine.proofs.Filtered.{fewer_pass, filter_sorted, most_pass}
 use Rattle.policy_machine.proofs.PutKeyKeys.{put_well}
 

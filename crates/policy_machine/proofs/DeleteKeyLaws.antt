@@ -2,18 +2,17 @@
 use Rattle.std.proofs.Common.{Option, inl, refl}
 use Rattle.policy_machine.specs.Admission.{Admitted}
 use Rattle.policy_machine.specs.DeleteKey.{managed_delete_key}
-use Rattle.policy_machine.specs.KeyVersions.{counters_but, keys_but}
+use Rattle.policy_machine.specs.KeySets.{counters_but, keys_but}
 use Rattle.policy_machine.specs.Management.{acting}
 use Rattle.policy_machine.proofs.SameThings.{same_fits}
 use Rattle.policy_machine.proofs.Judging.{judged}
 use Rattle.policy_machine.specs.Commands.{TakesCommand, Judges}
-use Rattle.policy_machine.specs.FirstFailing.{IsFirst}
+use Rattle.policy_machine.specs.Refusal.{IsFirst}
 use Rattle.policy_machine.specs.declared.rule.Rule.{Rule}
-use Rattle.policy_machine.specs.JudgedForms.{IsJudgeable}
+use Rattle.policy_machine.specs.ManagedForm.{IsJudgeable, command_form}
 use Rattle.policy_machine.proofs.ManagedLawful.{IsManagedLawful, leaves_one}
 use Rattle.policy_machine.proofs.DeleteKeyChosen.{one_choice}
 use Rattle.policy_machine.proofs.DeleteKeyKeeps.{without_version, without_version_ascending, without_version_well}
-use Rattle.policy_machine.specs.ManagedForm.{command_form}
 
 pub delete_key_judgeable : IsJudgeable managed_delete_key.judged
 delete_key_judgeable = record { one_asked = λ p1 p2. one_choice; own = λ rule. tt; one_rule = λ a b same. cc; approving = tt }

@@ -4,7 +4,7 @@ use Rattle.std.specs.Prelude.{◌&&◌, ◌==◌}
 use Rattle.card_types.proofs.NamedThings.{aid_differs}
 use Rattle.card_types.specs.Registry.{Key, Object, Registry}
 use Rattle.policy_machine.specs.DeleteKey.{managed_delete_key}
-use Rattle.policy_machine.specs.KeyVersions.{counters_but, is_key_numbered, keys_but, with_keys}
+use Rattle.policy_machine.specs.KeySets.{counters_but, is_key_numbered, keys_but, with_keys}
 use Rattle.policy_machine.specs.Management.{acting}
 use Rattle.policy_machine.proofs.SparingForms.{IsManagedSparing}
 use Rattle.policy_machine.proofs.TreeKept.{SparesTree}

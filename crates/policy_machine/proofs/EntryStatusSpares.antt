@@ -2,10 +2,10 @@
 use Rattle.std.proofs.Common.{◌≡◌, ◌⊎◌, inl, inr, ℕ, false, List, refl, sym, subst, ◌∙◌, arith}
 use Rattle.std.proofs.lemmas.Bool.{false_from_ne_true}
 use Rattle.card_types.proofs.NamedThings.{aid_differs}
-use Rattle.card_types.specs.AidOrder.{same_aid}
+use Rattle.card_types.specs.Aid.{same_aid}
 use Rattle.card_types.specs.Registry.{Registry}
 use Rattle.domain_tree.proofs.Compared.{above_further}
-use Rattle.domain_tree.specs.AboveLaws.{IsAboveIn}
+use Rattle.domain_tree.specs.Above.{IsAboveIn}
 use Rattle.policy_machine.specs.Admission.{Admitted}
 use Rattle.policy_machine.specs.Charge.{IsAtOrAbove}
 use Rattle.policy_machine.specs.EntryStatus.{OneIsSet, PersonalizesItself, SettingStatusFails, TreeIsSet, managed_entry_status}

@@ -4,8 +4,7 @@ use Rattle.std.specs.Prelude.{◌==◌, if◌then◌else◌}
 use Rattle.policy_machine.specs.Admission.{Admitted}
 use Rattle.policy_machine.specs.ExternalAuthenticate.{ExternalAuthenticateEffect, external_authenticate}
 use Rattle.policy_machine.specs.Sound.{Fits, IsSound}
-use Rattle.policy_machine.specs.State.{Effect}
-use Rattle.policy_machine.specs.Volatile.{Secured, Volatile, with_secure_channel}
+use Rattle.policy_machine.specs.State.{Effect, Secured, Volatile, with_secure_channel, offer_on}
 use Rattle.scp03_card.specs.Offer.{Offer}
 use Rattle.scp03_card.specs.Session.{HasCryptogram, HasMac, answered}
 use Rattle.policy_machine.proofs.SecureChannelSet.{offer_stands, secured_fits}
@@ -19,8 +18,7 @@ use Rattle.std.proofs.lemmas.Bool.{eqb-true}
 use Rattle.policy_machine.proofs.Judging.{BeginPasses, judged_behind}
 use Rattle.policy_machine.specs.Commands.{FormFails, TakesCommand, Judges}
 use Rattle.policy_machine.specs.ExternalAuthenticate.{ExternalAuthenticateFails, external_authenticate_rules, rules_before_form}
-use Rattle.policy_machine.specs.FirstFailing.{IsFirst}
-use Rattle.policy_machine.specs.Volatile.{offer_on}
+use Rattle.policy_machine.specs.Refusal.{IsFirst}
 use Rattle.policy_machine.specs.declared.external_authenticate.RuleEA.TheVariants.{EA1, EA2, EA3}
 use Rattle.policy_machine.specs.declared.rule.RulePS.TheVariants.{P, S}
 use Rattle.policy_machine.specs.declared.rule.Rule.{Rule}

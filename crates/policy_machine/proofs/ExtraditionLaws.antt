@@ -10,17 +10,16 @@ use Rattle.card_types.specs.RegistryChange.{moved}
 use Rattle.domain_tree.proofs.Paths.{off_line}
 use Rattle.policy_machine.specs.Admission.{Admitted}
 use Rattle.policy_machine.specs.Extradition.{AsksToExtradite, ExtraditingFails, managed_extradition}
-use Rattle.policy_machine.specs.FirstFailing.{IsFirst}
+use Rattle.policy_machine.specs.Refusal.{IsFirst}
 use Rattle.policy_machine.specs.InstallFields.{InstallData}
 use Rattle.policy_machine.specs.declared.extradition.RuleEX.TheVariants.{EX2, EX3, EX6}
 use Rattle.policy_machine.proofs.Lawful.{sound_of_card}
 use Rattle.policy_machine.proofs.LengthFields.{one_data}
 use Rattle.policy_machine.proofs.MovedFits.{moved_fits}
 use Rattle.policy_machine.proofs.ManagedJudging.{own_pass, delegation_asked}
-use Rattle.policy_machine.specs.JudgedForms.{IsJudgeable}
+use Rattle.policy_machine.specs.ManagedForm.{IsJudgeable, command_form}
 use Rattle.policy_machine.proofs.ManagedLawful.{IsManagedLawful, leaves_one, receipt_judged}
 use Rattle.policy_machine.specs.declared.extradition.RuleEX.{RuleEX}
-use Rattle.policy_machine.specs.ManagedForm.{command_form}
 
 -- what can't be no domain is one
 pub domain_stable : (o : Option Entry) → ((MatchOption o ⊥ (λ entry. is_domain entry ≡ true) → ⊥) → ⊥) → MatchOption o ⊥ (λ entry. is_domain entry ≡ true)

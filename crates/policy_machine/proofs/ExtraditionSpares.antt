@@ -7,7 +7,7 @@ use Rattle.card_types.specs.Privileges.{delegated_management, token_verification
 use Rattle.card_types.specs.Registry.{Key, Registry, entry_named, key_named}
 use Rattle.domain_tree.proofs.Compared.{above_compared, above_decided}
 use Rattle.domain_tree.proofs.FirstFound.{first_above_decided}
-use Rattle.domain_tree.specs.AboveLaws.{IsAboveIn}
+use Rattle.domain_tree.specs.Above.{IsAboveIn}
 use Rattle.tokens_receipts.specs.Token.{token}
 use Rattle.policy_machine.specs.Admission.{Admitted}
 use Rattle.policy_machine.specs.Charge.{IsAtOrAbove, is_privileged}

@@ -3,7 +3,7 @@ use Rattle.std.proofs.Common.{◌≡◌, ℕ, List, None, Some, subst}
 use Rattle.std.proofs.lemmas.List.Elements.{All-contains}
 use Rattle.card_types.proofs.LeastOfList.{found_fits}
 use Rattle.card_types.proofs.SameAid.{same_aid_decides}
-use Rattle.card_types.specs.AidOrder.{same_aid}
+use Rattle.card_types.specs.Aid.{same_aid}
 use Rattle.card_types.specs.Registry as registry
 use Rattle.card_types.specs.Registry.{entry_named, file_named}
 use Rattle.card_types.specs.Well.{IsWellFile, Well}

@@ -2,7 +2,7 @@
 use Rattle.std.proofs.Common.{◌≡◌, List, [], ◌∷◌, ◌++◌, Option, None, Some, Err, Ok, subst, sym, inl, inr}
 use Rattle.std.specs.Prelude.{IfErr, OnOk, Result}
 use Rattle.std.specs.Result.{IsErrAnd}
-use Rattle.policy_machine.specs.FirstFailing.{IsFirst}
+use Rattle.policy_machine.specs.Refusal.{IsFirst}
 
 module _ {R : Type 0} (fails : R → Type 0) (behind : List R) where
   -- it is in the first list

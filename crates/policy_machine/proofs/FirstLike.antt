@@ -3,7 +3,7 @@ use Rattle.std.proofs.Common.{◌≡◌, List, [], ◌∷◌, Option, None, Err,
 use Rattle.std.specs.Prelude.{IfErr, Result, map}
 use Rattle.std.specs.Option.{option_map}
 use Rattle.std.specs.Result.{IsErrAnd}
-use Rattle.policy_machine.specs.FirstFailing.{IsFirst}
+use Rattle.policy_machine.specs.Refusal.{IsFirst}
 
 -- two conditions of failing that are so of the same rules
 pub first_like : {R : Type 0} (fails others : R → Type 0) → ((rule : R) → fails rule → others rule) → ((rule : R) → others rule → fails rule)

@@ -7,7 +7,7 @@ use Rattle.card_types.specs.Registry.{LoadFile, Registry, entry_named, file_name
 use Rattle.card_types.specs.Well.{IsDomainNamed, pages_of}
 use Rattle.policy_machine.specs.DeleteObject.{IsLoadedInto, IsSelected}
 use Rattle.policy_machine.specs.Sound.{Fits, FitsSecureChannel, IsWellChannel, IsWellLoad, IsSecured}
-use Rattle.policy_machine.specs.Volatile.{Channel, LoadSession, Nothing, Offered, SecureChannel, Secured, Volatile, channel_at}
+use Rattle.policy_machine.specs.State.{Channel, LoadSession, Nothing, Offered, SecureChannel, Secured, Volatile, channel_at}
 
 -- it is selected on a channel, or what is loaded goes into it
 abbrev pub IsHeld : Volatile → List ℕ → Type 0

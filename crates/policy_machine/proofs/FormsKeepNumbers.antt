@@ -1,7 +1,7 @@
 -- What the forms of card content management make of the registry changes no receipt number.
 use Rattle.std.proofs.Common.{◌≡◌, ◌⊎◌, inl, inr, ℕ, Bool, false, List, cond, refl, ap, sym, subst}
 use Rattle.std.proofs.lemmas.Bool.{cond_both}
-use Rattle.card_types.specs.AidOrder.{same_aid}
+use Rattle.card_types.specs.Aid.{same_aid}
 use Rattle.card_types.specs.Registry.{Entry, Registry}
 use Rattle.card_types.specs.RegistryChange.{with_entries}
 use Rattle.card_types.specs.declared.life.Life.TheVariants.{Selectable}

@@ -5,7 +5,7 @@ use Rattle.card_types.specs.Registry.{Entry, Registry, entry_named}
 use Rattle.card_types.specs.Well.{IsIssuerDomain, Well}
 use Rattle.card_types.specs.declared.factory.TheConstants.{ISSUER}
 use Rattle.policy_machine.specs.Sound.{IsWellChannel}
-use Rattle.policy_machine.specs.Volatile.{fresh}
+use Rattle.policy_machine.specs.State.{fresh}
 
 issuer_is_named : (registry : Registry) → (found : Option Entry) → MatchOption found ⊥ IsIssuerDomain → IsSome found
 issuer_is_named registry None issuer = absurd issuer

@@ -4,8 +4,7 @@ use Rattle.card_types.specs.Registry.{Registry}
 use Rattle.policy_machine.specs.Admission.{Admitted}
 use Rattle.policy_machine.specs.GetStatus.{AreTemplates, GetStatusEffect, IsFullFor, IsLeftAt, Thing, channel_at_place, get_status, with_place}
 use Rattle.policy_machine.specs.Sound.{Fits, IsSound}
-use Rattle.policy_machine.specs.State.{Effect}
-use Rattle.policy_machine.specs.Volatile.{Place, Volatile}
+use Rattle.policy_machine.specs.State.{Effect, Place, Volatile}
 use Rattle.policy_machine.proofs.Lawful.{IsLawful, IsReady, same_as, sound_with, LoadStays}
 use Rattle.policy_machine.proofs.SameEffect.{effect_same, state_same}
 use Rattle.policy_machine.proofs.SecureChannelSet.{within}

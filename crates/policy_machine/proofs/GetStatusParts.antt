@@ -10,7 +10,7 @@ use Rattle.bertlv.specs.Spelling.{Spelling}
 use Rattle.card_types.proofs.AtMostOnce.{once_from_sorted, same_members}
 use Rattle.card_types.proofs.ChangeExists.{one_order}
 use Rattle.card_types.proofs.LeastOfList.{sorted_by_name}
-use Rattle.card_types.specs.AidOrder.{aid_order}
+use Rattle.card_types.specs.Aid.{aid_order}
 use Rattle.card_types.specs.Registry.{Registry}
 use Rattle.policy_machine.specs.Admission.{Admitted}
 use Rattle.policy_machine.specs.GetStatus.{AreTemplates, IsListing, IsTemplate, Thing, aid_in, part_limit, status_parts}

@@ -6,12 +6,11 @@ use Rattle.card_types.specs.Registry.{Counter}
 use Rattle.card_types.specs.declared.limits.TheConstants.{COUNTER_LIMIT}
 use Rattle.policy_machine.specs.Admission.{Admitted}
 use Rattle.policy_machine.specs.Commands.{JudgesAs}
-use Rattle.policy_machine.specs.FirstFailing.{IsFirst}
+use Rattle.policy_machine.specs.Refusal.{IsFirst}
 use Rattle.policy_machine.specs.InitializeUpdate.{AsksForSet, InitializeUpdateEffect, InitializeUpdateFails, IsOfferOf, offer_body, initialize_update, offer_rules}
 use Rattle.policy_machine.specs.Management.{acting}
 use Rattle.policy_machine.specs.Sound.{IsSound}
-use Rattle.policy_machine.specs.State.{Effect}
-use Rattle.policy_machine.specs.Volatile.{Offered, Volatile, with_secure_channel}
+use Rattle.policy_machine.specs.State.{Effect, Offered, Volatile, with_secure_channel}
 use Rattle.policy_machine.specs.declared.initialize_update.RuleIU.TheVariants.{IU3}
 use Rattle.policy_machine.specs.declared.instruction.TheConstants.{SELECT, MANAGE_CHANNEL, INITIALIZE_UPDATE, LOAD}
 use Rattle.policy_machine.specs.declared.rule.Rule.TheVariants.{IU}

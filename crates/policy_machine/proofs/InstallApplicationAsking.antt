@@ -8,12 +8,12 @@ use Rattle.card_types.specs.Privileges.{ArePrivilegeBytes, IsNamed, bits_of, pri
 use Rattle.card_types.specs.declared.privileges.Privileges.{Privileges}
 use Rattle.policy_machine.specs.InstallApplication.{AreInstallParameters, AsksToInstall, InstallAsked, managed_install}
 use Rattle.policy_machine.specs.InstallFields.{InstallData, IsInstallData}
-use Rattle.policy_machine.specs.ObjectsFound.{has_tag_in}
+use Rattle.policy_machine.specs.DataObjects.{has_tag_in}
 use Rattle.policy_machine.proofs.Filtered.{any_there, there_any}
 use Rattle.policy_machine.proofs.LengthFields.{one_data}
 use Rattle.policy_machine.proofs.StoreDataElements.{elements_behind, elements_with, none_left, one_list}
 use Rattle.policy_machine.proofs.ManagedJudging.{delegation_asked}
-use Rattle.policy_machine.specs.JudgedForms.{IsJudgeable}
+use Rattle.policy_machine.specs.ManagedForm.{IsJudgeable}
 
 abbrev pub AreSome : List ℕ → Type 0
 AreSome bytes = (elements : List Element) × AreElements elements bytes

@@ -10,7 +10,7 @@ use Rattle.card_types.proofs.AddedThing.{entry_added_keeps}
 use Rattle.card_types.proofs.ChangeExists.{one_order}
 use Rattle.card_types.proofs.NamedThings.{beside_found, still_found}
 use Rattle.card_types.proofs.SameAid.{same_aid_decides}
-use Rattle.card_types.specs.AidOrder.{aid_order, same_aid}
+use Rattle.card_types.specs.Aid.{aid_order, same_aid}
 use Rattle.card_types.specs.ChangeLaws.{IsOfCard, MayAddEntry}
 use Rattle.card_types.specs.Privileges.{authorized_management, bits_of, delegated_management, has}
 use Rattle.card_types.specs.Registry.{Entry, Registry, entry_named, file_named, is_domain}
@@ -20,10 +20,10 @@ use Rattle.card_types.specs.declared.factory.TheConstants.{FACTORY_FILE, FACTORY
 use Rattle.card_types.specs.declared.life.Life.TheVariants.{Installed, Selectable}
 use Rattle.policy_machine.proofs.FitsKept.{KeepsHeld, fits_kept, same_files, some_there}
 use Rattle.policy_machine.specs.Admission.{Admitted}
-use Rattle.policy_machine.specs.FirstFailing.{IsFirst}
+use Rattle.policy_machine.specs.Refusal.{IsFirst}
 use Rattle.policy_machine.specs.InstallApplication.{AsksToInstall, InstallAsked, InstallingFails, MayBeMade, entry_made, managed_install, refused_privileges}
 use Rattle.policy_machine.specs.Management.{acting}
-use Rattle.policy_machine.specs.Volatile.{LoadSession}
+use Rattle.policy_machine.specs.State.{LoadSession}
 use Rattle.policy_machine.specs.declared.install_application.RuleII.{RuleII}
 use Rattle.policy_machine.specs.declared.install_application.RuleII.TheVariants.{II1, II2, II3, II4, II5, II6, II7}
 use Rattle.policy_machine.proofs.InstallApplicationAsking.{install_judgeable}

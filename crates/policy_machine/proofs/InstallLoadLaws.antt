@@ -8,12 +8,11 @@ use Rattle.card_types.specs.Well.{IsDomainNamed}
 use Rattle.policy_machine.specs.Admission.{Admitted}
 use Rattle.policy_machine.specs.Classes.{managing}
 use Rattle.policy_machine.specs.Commands.{Judges, JudgesAs, TakesCommand}
-use Rattle.policy_machine.specs.FirstFailing.{IsFirst}
+use Rattle.policy_machine.specs.Refusal.{IsFirst}
 use Rattle.policy_machine.specs.InstallLoad.{AsksToLoad, InstallLoadEffect, InstallingLoadFails, LoadData, install_load, load_begun, named_or, judged_install_load}
 use Rattle.policy_machine.specs.Management.{acting}
 use Rattle.policy_machine.specs.Sound.{Fits, IsHashLength, IsSound, IsWellLoad}
-use Rattle.policy_machine.specs.State.{Effect}
-use Rattle.policy_machine.specs.Volatile.{Volatile, with_load}
+use Rattle.policy_machine.specs.State.{Effect, Volatile, with_load}
 use Rattle.policy_machine.specs.declared.install_load.RuleIL.{RuleIL}
 use Rattle.policy_machine.specs.declared.install_load.RuleIL.TheVariants.{IL1, IL2, IL3, IL4, IL5, IL6, IL7}
 use Rattle.policy_machine.specs.declared.rule.Rule.{Rule}
@@ -24,7 +23,7 @@ use Rattle.policy_machine.proofs.Lawful.{HasNoPlaceOn, IsLawful, IsReady, manage
 use Rattle.policy_machine.proofs.LengthFields.{one_load_data}
 use Rattle.policy_machine.proofs.SameEffect.{effect_same, state_same}
 use Rattle.policy_machine.proofs.ManagedJudging.{own_pass}
-use Rattle.policy_machine.specs.JudgedForms.{IsJudgeable}
+use Rattle.policy_machine.specs.ManagedForm.{IsJudgeable}
 
 -- a length that can't be none of a hash is one
 hash_stable : (size : ℕ) → ((IsHashLength size → ⊥) → ⊥) → IsHashLength size

@@ -11,7 +11,7 @@ use Rattle.policy_machine.specs.DeleteObject.{managed_delete_object}
 use Rattle.policy_machine.specs.EntryStatus.{managed_entry_status}
 use Rattle.policy_machine.specs.ExternalAuthenticate.{external_authenticate}
 use Rattle.policy_machine.specs.Extradition.{managed_extradition}
-use Rattle.policy_machine.specs.FirstFailing.{IsFirst}
+use Rattle.policy_machine.specs.Refusal.{IsFirst}
 use Rattle.policy_machine.specs.GetData.{get_data}
 use Rattle.policy_machine.specs.GetStatus.{get_status}
 use Rattle.policy_machine.specs.InitializeUpdate.{initialize_update}

@@ -6,7 +6,7 @@ use Rattle.policy_machine.specs.Admission.{Admitted}
 use Rattle.policy_machine.specs.CommandForm.{CommandForm}
 use Rattle.policy_machine.specs.Commands.{HasEffect, FormFails, TakesCommand, Judges, OneOf, forms_of}
 use Rattle.policy_machine.specs.ExternalAuthenticate.{rules_before_form}
-use Rattle.policy_machine.specs.FirstFailing.{IsFirst}
+use Rattle.policy_machine.specs.Refusal.{IsFirst}
 use Rattle.policy_machine.specs.Malformed.{IsMalformed}
 use Rattle.policy_machine.specs.State.{Effect}
 use Rattle.policy_machine.specs.declared.rule.Rule.{Rule}

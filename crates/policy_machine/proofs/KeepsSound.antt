@@ -8,9 +8,8 @@ use Rattle.policy_machine.specs.Admission.{Admits, Admitted, GeneralRefusalLeave
 use Rattle.policy_machine.specs.Classes.{channel_of}
 use Rattle.policy_machine.specs.Laws.{StartsSound, StepsKeepSound}
 use Rattle.policy_machine.specs.Sound.{Fits, IsSound, IsWellChannel}
-use Rattle.policy_machine.specs.State.{State}
+use Rattle.policy_machine.specs.State.{State, Nothing, Volatile, channel_at, first_volatile, with_offer_dropped, without_session, without_load}
 use Rattle.policy_machine.specs.Step.{Outcome, keeps_load, refusal_leaves}
-use Rattle.policy_machine.specs.Volatile.{Nothing, Volatile, channel_at, first_volatile, with_offer_dropped, without_session, without_load}
 use Rattle.policy_machine.specs.declared.rule.RuleG.{RuleG}
 use Rattle.policy_machine.specs.declared.rule.RuleG.TheVariants.{G1, G2, G3, G4, G5, G6, G7, G8}
 use Rattle.policy_machine.proofs.Opened.{passed_protected}

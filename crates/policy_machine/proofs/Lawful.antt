@@ -1,9 +1,8 @@
 -- What is asked of a command.
 use Rattle.std.proofs.Common.{◌≡◌, ◌≢◌, ◌⊎◌, ℕ, ◌<◌, ◌≤◌, false, Option, None, Some, refl, sym, ap, subst, ◌∙◌, inl, inr, arith}
 use Rattle.std.specs.Prelude.{◌==◌, Contains, IsSome, MatchOption}
-use Rattle.card_types.specs.Ascending.{IsAscending}
+use Rattle.card_types.specs.Registry.{IsAscending, Registry}
 use Rattle.card_types.specs.ChangeLaws.{IsOfCard}
-use Rattle.card_types.specs.Registry.{Registry}
 use Rattle.card_types.specs.Well.{IsDomainNamed, Well}
 use Rattle.apdu_core.specs.Apdu.{Apdu}
 use Rattle.policy_machine.specs.Admission.{Admitted}
@@ -11,8 +10,7 @@ use Rattle.policy_machine.specs.Classes.{managing}
 use Rattle.policy_machine.specs.Commands.{JudgesAs, TakesCommand}
 use Rattle.policy_machine.specs.Management.{acting}
 use Rattle.policy_machine.specs.Sound.{Fits, IsSound}
-use Rattle.policy_machine.specs.State.{Effect, State}
-use Rattle.policy_machine.specs.Volatile.{Channel, LoadSession, SecureChannel, Volatile, channel_at, load_without_channel, place_in, channel_with, with_channel, with_secure_channel}
+use Rattle.policy_machine.specs.State.{Effect, State, Channel, LoadSession, SecureChannel, Volatile, channel_at, load_without_channel, place_in, channel_with, with_channel, with_secure_channel}
 use Rattle.policy_machine.specs.declared.instruction.TheConstants.{GET_STATUS, INSTALL, LOAD, MANAGE_CHANNEL, SELECT}
 use Rattle.policy_machine.specs.Changes.{IsSameButCounters}
 use Rattle.policy_machine.specs.CommandForm.{CommandForm}

@@ -7,7 +7,7 @@ use Rattle.std.proofs.lemmas.Cmp.{nat_list_cmp_total, on_total}
 use Rattle.std.proofs.lemmas.List.Sorted.{IsPermutation-sym, IsPermutation-trans}
 use Rattle.card_types.proofs.AddedThing.{file_added_keeps}
 use Rattle.card_types.proofs.ChangeExists.{one_order}
-use Rattle.card_types.specs.AidOrder.{aid_order}
+use Rattle.card_types.specs.Aid.{aid_order}
 use Rattle.card_types.specs.ChangeLaws.{IsOfCard, MayAddFile}
 use Rattle.card_types.specs.Privileges.{delegated_management}
 use Rattle.card_types.specs.Registry.{LoadFile, Registry}
@@ -18,12 +18,11 @@ use Rattle.policy_machine.specs.Admission.{Admitted}
 use Rattle.policy_machine.specs.Classes.{managing}
 use Rattle.policy_machine.specs.Commands.{JudgesAs}
 use Rattle.policy_machine.specs.Delegation.{Holds, IsAnswered, ReceiptFails, unconfirmed}
-use Rattle.policy_machine.specs.FirstFailing.{IsFirst}
+use Rattle.policy_machine.specs.Refusal.{IsFirst}
 use Rattle.policy_machine.specs.Load.{EndsLoad, GoesOn, IsLoadOn, LoadEffect, LoadFails, LoadingFails, block_of, file_of_load, load_rules, loading}
 use Rattle.policy_machine.specs.LoadBlocks.{BringsBytes, pages_used, with_block}
 use Rattle.policy_machine.specs.Sound.{Fits, IsSound, IsWellLoad}
-use Rattle.policy_machine.specs.State.{Effect}
-use Rattle.policy_machine.specs.Volatile.{LoadSession, Volatile, load_without_channel, without_load}
+use Rattle.policy_machine.specs.State.{Effect, LoadSession, Volatile, load_without_channel, without_load}
 use Rattle.policy_machine.specs.declared.delegation.RuleRC.TheVariants.{RC1}
 use Rattle.policy_machine.specs.declared.load.RuleLO.{RuleLO}
 use Rattle.policy_machine.specs.declared.load.RuleLO.TheVariants.{LO1, LO2, LO3, LO4, LO5, LO6, LO7, LO8}

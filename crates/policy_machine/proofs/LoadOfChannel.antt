@@ -2,7 +2,7 @@
 use Rattle.std.proofs.Common.{sym, subst, ◌∙◌}
 use Rattle.policy_machine.specs.Admission.{Admitted}
 use Rattle.policy_machine.specs.Load.{InLoad, IsLoadOn}
-use Rattle.policy_machine.specs.Volatile.{LoadSession}
+use Rattle.policy_machine.specs.State.{LoadSession}
 use Rattle.policy_machine.proofs.Lawful.{some_same}
 
 -- it holds of the load session of the channel

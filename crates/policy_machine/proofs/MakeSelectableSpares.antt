@@ -1,10 +1,10 @@
 -- INSTALL [for make selectable] spares the trees in which the acting domain is not: the application is below it.
 use Rattle.std.proofs.Common.{◌≡◌, inr, ℕ, false, List, refl, sym, subst, arith}
 use Rattle.card_types.proofs.NamedThings.{aid_differs}
-use Rattle.card_types.specs.AidOrder.{same_aid}
+use Rattle.card_types.specs.Aid.{same_aid}
 use Rattle.card_types.specs.Registry.{Registry}
 use Rattle.card_types.specs.declared.life.Life.TheVariants.{Selectable}
-use Rattle.domain_tree.specs.AboveLaws.{IsAboveIn}
+use Rattle.domain_tree.specs.Above.{IsAboveIn}
 use Rattle.policy_machine.specs.Charge.{IsAtOrAbove}
 use Rattle.policy_machine.specs.MakeSelectable.{managed_selectable}
 use Rattle.policy_machine.specs.Management.{acting}

@@ -5,8 +5,7 @@ use Rattle.card_types.specs.declared.factory.TheConstants.{ISSUER}
 use Rattle.policy_machine.specs.Admission.{Admitted}
 use Rattle.policy_machine.specs.ManageChannel.{IsClosed, IsClosedAlready, IsOpened, ManageChannelEffect, ManageChannelParameters, lowest_closed, manage_channel}
 use Rattle.policy_machine.specs.Sound.{IsSound}
-use Rattle.policy_machine.specs.State.{Effect}
-use Rattle.policy_machine.specs.Volatile.{Channel, channel_at, fresh}
+use Rattle.policy_machine.specs.State.{Effect, Channel, channel_at, fresh}
 use Rattle.policy_machine.proofs.SetChannel.{IsInSession, ended_fits, lowest_is_closed, set_fits}
 use Rattle.policy_machine.proofs.SecureChannelSet.{within}
 use Rattle.policy_machine.specs.Changes.{IsSameButCounters}

@@ -4,10 +4,9 @@ use Rattle.std.specs.Prelude.{Contains, map}
 use Rattle.std.proofs.lemmas.List.Elements.{Contains-append_left, Contains-append_right}
 use Rattle.card_types.proofs.Members.{contains_cases, contains_map}
 use Rattle.policy_machine.specs.Admission.{Admitted}
-use Rattle.policy_machine.specs.FirstFailing.{IsFirst}
-use Rattle.policy_machine.specs.ManagedForm.{AskedFails, CommandAsks, JudgedFails, JudgedForm, OwnFirst}
+use Rattle.policy_machine.specs.Refusal.{IsFirst}
+use Rattle.policy_machine.specs.ManagedForm.{AskedFails, CommandAsks, JudgedFails, JudgedForm, OwnFirst, IsJudgeable, IsOnAsked, IsOwn, OfEach}
 use Rattle.policy_machine.specs.Management.{ManagementFails}
-use Rattle.policy_machine.specs.JudgedForms.{IsJudgeable, IsOnAsked, IsOwn, OfEach}
 use Rattle.policy_machine.specs.declared.management.RuleM.{RuleM}
 use Rattle.policy_machine.specs.declared.rule.Rule.{Rule}
 use Rattle.policy_machine.specs.declared.rule.Rule.TheVariants.{M, RC, TK}

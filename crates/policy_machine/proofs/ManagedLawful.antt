@@ -9,7 +9,7 @@ use Rattle.policy_machine.specs.Admission.{Admitted}
 use Rattle.policy_machine.specs.Classes.{managing}
 use Rattle.policy_machine.specs.Commands.{JudgesAs}
 use Rattle.policy_machine.specs.Delegation.{IsAnswered, ReceiptFails, delegation_rules}
-use Rattle.policy_machine.specs.ManagedForm.{CommandAsks, JudgedForm, ManagedEffect, ManagedForm, command_form}
+use Rattle.policy_machine.specs.ManagedForm.{CommandAsks, JudgedForm, ManagedEffect, ManagedForm, command_form, IsJudgeable}
 use Rattle.policy_machine.specs.Management.{acting}
 use Rattle.policy_machine.specs.Sound.{Fits, IsSound}
 use Rattle.policy_machine.specs.State.{Effect}
@@ -19,7 +19,6 @@ use Rattle.policy_machine.proofs.AnsweredKeeps.{answered_fits, answered_keeps, a
 use Rattle.policy_machine.proofs.Instructed.{each_byte}
 use Rattle.policy_machine.proofs.Lawful.{IsLawful, IsReady, fits_as, load_same, managed_apart, placeless_same}
 use Rattle.policy_machine.proofs.ManagedJudging.{approval_passes, own_pass}
-use Rattle.policy_machine.specs.JudgedForms.{IsJudgeable}
 use Rattle.policy_machine.proofs.SameEffect.{effect_same, state_same}
 
 -- A command that no rule refuses asks for this.

@@ -3,7 +3,7 @@ use Rattle.std.proofs.Common.{◌≡◌, inl, inr, ℕ, ◌+◌, Bool, true, fal
 use Rattle.std.specs.Prelude.{not}
 use Rattle.std.proofs.lemmas.Bool.{cases_Bool, cases_eq, eq-eqb, ne_eqb}
 use Rattle.bertlv.specs.Spelling.{Element}
-use Rattle.policy_machine.specs.ObjectsFound.{has_tag_in, new_tags}
+use Rattle.policy_machine.specs.DataObjects.{has_tag_in, new_tags}
 
 abbrev pub count_if : Bool → ℕ
 count_if b = cond b 1 0

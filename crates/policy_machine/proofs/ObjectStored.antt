@@ -17,10 +17,9 @@ use Rattle.card_types.proofs.NotAbove.{then_equal}
 use Rattle.card_types.proofs.ObjectNames.{object_order_total}
 use Rattle.card_types.proofs.SameAid.{aid_equal_same, aid_same_equal, same_aid_decides}
 use Rattle.card_types.proofs.SetNames.{same_number}
-use Rattle.card_types.specs.AidOrder.{aid_order, same_aid}
-use Rattle.card_types.specs.Ascending.{object_order}
-use Rattle.card_types.specs.Changed.{IsChanged}
-use Rattle.card_types.specs.Registry.{Object}
+use Rattle.card_types.specs.Aid.{aid_order, same_aid}
+use Rattle.card_types.specs.Registry.{object_order, Object}
+use Rattle.card_types.specs.RegistryChange.{IsChanged}
 use Rattle.policy_machine.proofs.Filtered.{filter_same}
 use Rattle.policy_machine.specs.Arranged.{IsArranged}
 use Rattle.policy_machine.specs.DataObjects.{is_object_of, with_object, with_objects}

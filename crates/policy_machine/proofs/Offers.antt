@@ -7,7 +7,7 @@ use Rattle.policy_machine.specs.Admission.{Admitted, Of, channel_passed, class_p
 use Rattle.policy_machine.specs.Classes.{channel_of, class_of, is_protected, is_secure, protects}
 use Rattle.policy_machine.specs.Laws.{RefusalsDropOffers, is_later}
 use Rattle.policy_machine.specs.Step.{Outcome, keeps_load, refusal_leaves}
-use Rattle.policy_machine.specs.Volatile.{Channel, Nothing, Offered, Secured, SecureChannel, Volatile, channel_at, offer_in, secure_channel_of, channel_with, with_offer_dropped, with_secure_channel, without_load, without_offer}
+use Rattle.policy_machine.specs.State.{Channel, Nothing, Offered, Secured, SecureChannel, Volatile, channel_at, offer_in, secure_channel_of, channel_with, with_offer_dropped, with_secure_channel, without_load, without_offer}
 use Rattle.policy_machine.specs.declared.class.Class.{Class}
 use Rattle.policy_machine.specs.declared.instruction.TheConstants.{EXTERNAL_AUTHENTICATE}
 use Rattle.policy_machine.specs.declared.rule.Rule.{Rule}

@@ -6,9 +6,8 @@ use Rattle.apdu_core.specs.Apdu.{Apdu, Short}
 use Rattle.policy_machine.specs.Admission.{Admits, Admitted, GeneralFails, IsTaken, GeneralRefusalLeaves, Of, SessionEnds, admitted_as, class_passed, general_rules, without_place, session_for}
 use Rattle.policy_machine.specs.Classes.{IsPlainManagement, channel_of}
 use Rattle.policy_machine.specs.Laws.{OneOutcome, OneRun}
-use Rattle.policy_machine.specs.State.{Effect, State, powered_on}
+use Rattle.policy_machine.specs.State.{Effect, State, powered_on, Volatile, without_session}
 use Rattle.policy_machine.specs.Step.{IsAccepted, IsRejected, IsRefused, Outcome, accepted, refusal_leaves, refused}
-use Rattle.policy_machine.specs.Volatile.{Volatile, without_session}
 use Rattle.policy_machine.specs.declared.rule.Rule.{Rule}
 use Rattle.policy_machine.specs.declared.rule.Rule.TheVariants.{G}
 use Rattle.policy_machine.specs.declared.rule.RuleG.{RuleG}

@@ -6,7 +6,7 @@ use Rattle.card_types.specs.Registry.{Registry}
 use Rattle.policy_machine.specs.Admission.{Admits, Admitted, GeneralFails, IsTaken, general_rules, session_for}
 use Rattle.policy_machine.specs.Changes.{Changes, OpensInSession, IsSameButCounters}
 use Rattle.policy_machine.specs.Classes.{class_of, instructions_of, is_protected, managing, protects}
-use Rattle.policy_machine.specs.FirstFailing.{IsFirst}
+use Rattle.policy_machine.specs.Refusal.{IsFirst}
 use Rattle.policy_machine.specs.Laws.{ChangesAreOpened}
 use Rattle.policy_machine.specs.State.{Effect, State}
 use Rattle.policy_machine.specs.Step.{Outcome}

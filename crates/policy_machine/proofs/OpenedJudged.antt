@@ -8,12 +8,11 @@ use Rattle.card_types.specs.declared.card_life.CardLife.TheVariants.{Terminated}
 use Rattle.policy_machine.specs.Admission.{Admits, Admitted, GeneralFails, InSession, IsTaken, IsToApplication, Of, admitted_as, general_rules, session_for}
 use Rattle.policy_machine.specs.Classes.{IsKnown, IsPlainManagement, channel_of, class_of, is_protected, protects}
 use Rattle.policy_machine.specs.Commands.{Judges}
-use Rattle.policy_machine.specs.FirstFailing.{IsFirst}
+use Rattle.policy_machine.specs.Refusal.{IsFirst}
 use Rattle.policy_machine.specs.OwnRules.{OpenedAreJudged}
 use Rattle.policy_machine.specs.Sound.{IsSound}
-use Rattle.policy_machine.specs.State.{State}
+use Rattle.policy_machine.specs.State.{State, Channel, channel_at, secure_channel_of, selected_on, session_in}
 use Rattle.policy_machine.specs.Step.{Outcome, Step}
-use Rattle.policy_machine.specs.Volatile.{Channel, channel_at, secure_channel_of, selected_on, session_in}
 use Rattle.policy_machine.specs.declared.class.Class.{Class}
 use Rattle.policy_machine.specs.declared.class.Class.TheVariants.{Plain}
 use Rattle.policy_machine.specs.declared.rule.Rule.{Rule}

@@ -7,10 +7,9 @@ use Rattle.card_types.specs.Registry.{Entry, Registry, entry_named, is_domain}
 use Rattle.card_types.specs.Well.{IsDomainNamed}
 use Rattle.policy_machine.specs.Admission.{GeneralFails, IsTaken, admitted_as, channel_passed, class_passed, general_rules, message_joined, offer_passed, without_place, session_for}
 use Rattle.policy_machine.specs.Classes.{channel_of, is_protected}
-use Rattle.policy_machine.specs.FirstFailing.{IsFirst}
+use Rattle.policy_machine.specs.Refusal.{IsFirst}
 use Rattle.policy_machine.specs.Sound.{Fits, IsSecured, IsWellChannel, FitsSecureChannel}
-use Rattle.policy_machine.specs.State.{State}
-use Rattle.policy_machine.specs.Volatile.{Channel, LoadSession, Nothing, Offered, Secured, SecureChannel, Volatile, channel_at, load_without_channel, selected_of, selected_on, session_in, session_on, secure_channel_of, channel_with, with_channel, without_load}
+use Rattle.policy_machine.specs.State.{State, Channel, LoadSession, Nothing, Offered, Secured, SecureChannel, Volatile, channel_at, load_without_channel, selected_of, selected_on, session_in, session_on, secure_channel_of, channel_with, with_channel, without_load}
 use Rattle.policy_machine.specs.declared.instruction.TheConstants.{SELECT, MANAGE_CHANNEL, EXTERNAL_AUTHENTICATE, LOAD}
 use Rattle.policy_machine.specs.declared.rule.RuleG.TheVariants.{G3, G4}
 use Rattle.scp03_card.specs.Opens.{Opens, accepting}

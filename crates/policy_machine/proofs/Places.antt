@@ -6,9 +6,8 @@ use Rattle.policy_machine.specs.Admission.{Admits, Admitted, Of, admitted_as, ch
 use Rattle.policy_machine.specs.Classes.{channel_of}
 use Rattle.policy_machine.specs.Commands.{HasEffect}
 use Rattle.policy_machine.specs.Laws.{PlacesAreForgotten, is_later}
-use Rattle.policy_machine.specs.State.{Effect, State}
+use Rattle.policy_machine.specs.State.{Effect, State, Channel, Nothing, Secured, Volatile, channel_at, place_in, secure_channel_of, with_offer_dropped, with_secure_channel, without_load, without_offer, without_session}
 use Rattle.policy_machine.specs.Step.{Outcome, keeps_load, refusal_leaves}
-use Rattle.policy_machine.specs.Volatile.{Channel, Nothing, Secured, Volatile, channel_at, place_in, secure_channel_of, with_offer_dropped, with_secure_channel, without_load, without_offer, without_session}
 use Rattle.policy_machine.specs.declared.instruction.TheConstants.{EXTERNAL_AUTHENTICATE, GET_STATUS, LOAD}
 use Rattle.policy_machine.specs.declared.rule.Rule.{Rule}
 use Rattle.policy_machine.specs.declared.rule.Rule.TheVariants.{G}

@@ -6,17 +6,16 @@ use Rattle.std.proofs.lemmas.List.Elements.{All-head, All-nil, All-cons, All-tai
 use Rattle.card_types.proofs.Members.{contains_cases, contains_first, contains_later}
 use Rattle.card_types.proofs.SameAid.{same_aid_decides}
 use Rattle.card_types.proofs.SetMembers.{HasKeyNamed, whole_of}
-use Rattle.card_types.specs.AidOrder.{same_aid}
-use Rattle.card_types.specs.Ascending.{IsAscending, counter_order, key_order}
-use Rattle.card_types.specs.Registry.{Counter, Key, Registry}
+use Rattle.card_types.specs.Aid.{same_aid}
+use Rattle.card_types.specs.Registry.{IsAscending, counter_order, key_order, Counter, Key, Registry}
 use Rattle.card_types.specs.Well.{IsDomainNamed, IsKeyLength, IsKeyName, IsWellCounter, IsWellKey, IsWholeSet, Well}
 use Rattle.card_types.specs.declared.limits.TheConstants.{DOMAIN_KEYS, KEYS}
 use Rattle.policy_machine.specs.Admission.{Admitted}
 use Rattle.policy_machine.specs.Arranged.{IsArranged}
-use Rattle.policy_machine.specs.KeyVersions.{counters_but, has_key_version, is_key_numbered, keys_but, with_keys}
+use Rattle.policy_machine.specs.KeySets.{counters_but, has_key_version, is_key_numbered, keys_but, with_keys}
 use Rattle.policy_machine.specs.Management.{acting}
 use Rattle.policy_machine.specs.PutKey.{AreKeysSent, AreOfOneLength, HasFieldLengths, IsNewVersion, SentKey, counters_from, key_count, keys_from, keys_left, own_keys_left, AreKeysPut, AsksToPut, KeysAsked, PuttingKeyFails}
-use Rattle.policy_machine.specs.Volatile.{session_on}
+use Rattle.policy_machine.specs.State.{session_on}
 use Rattle.policy_machine.specs.declared.put_key.RulePK.TheVariants.{PK2, PK4}
 use Rattle.scp03_card.specs.Session.{Session}
 use Rattle.policy_machine.proofs.Filtered.{any_there}

@@ -7,15 +7,14 @@ use Rattle.policy_machine.proofs.PutKeyKeeps.{put_keeps}
 use Rattle.policy_machine.proofs.SameThings.{same_fits}
 use Rattle.policy_machine.proofs.Judging.{judged}
 use Rattle.policy_machine.specs.Commands.{TakesCommand, Judges}
-use Rattle.policy_machine.specs.FirstFailing.{IsFirst}
+use Rattle.policy_machine.specs.Refusal.{IsFirst}
 use Rattle.policy_machine.specs.declared.rule.Rule.{Rule}
 use Rattle.std.proofs.Common.{Option}
 use Rattle.card_types.specs.Registry.{Registry}
-use Rattle.policy_machine.specs.JudgedForms.{IsJudgeable}
+use Rattle.policy_machine.specs.ManagedForm.{IsJudgeable, command_form}
 use Rattle.policy_machine.proofs.ManagedLawful.{IsManagedLawful, IsPassedFor, MayFollow, may_follow}
 use Rattle.policy_machine.proofs.PutKeyOnce.{one_put, keys_put_once}
-use Rattle.policy_machine.specs.KeyVersions.{with_keys}
-use Rattle.policy_machine.specs.ManagedForm.{command_form}
+use Rattle.policy_machine.specs.KeySets.{with_keys}
 use Rattle.policy_machine.proofs.Lawful.{sound_of_card}
 
 pub put_key_judgeable : IsJudgeable managed_put_key.judged

@@ -13,16 +13,15 @@ use Rattle.cmac_kdf.proofs.CbcLemmas.{same_plain}
 use Rattle.cmac_kdf.specs.Blocks.{zero_block}
 use Rattle.card_types.proofs.ChangeExists.{one_order}
 use Rattle.card_types.proofs.KeyNames.{counter_order_total, key_order_total}
-use Rattle.card_types.specs.Ascending.{counter_order, key_order}
+use Rattle.card_types.specs.Registry.{counter_order, key_order, Registry}
 use Rattle.policy_machine.specs.Admission.{Admitted}
 use Rattle.policy_machine.specs.Arranged.{IsArranged}
-use Rattle.policy_machine.specs.KeyVersions.{with_keys}
+use Rattle.policy_machine.specs.KeySets.{with_keys}
 use Rattle.policy_machine.specs.Management.{acting}
 use Rattle.policy_machine.specs.PutKey.{AreKeysSent, HasKeyFields, IsKeySent, SentKey, key_count, key_field, keys_from, keys_left, AreKeysPut, AsksToPut, KeysAsked, PuttingKeyFails, managed_put_key}
-use Rattle.policy_machine.specs.Volatile.{session_on}
+use Rattle.policy_machine.specs.State.{session_on}
 use Rattle.scp03_card.specs.Session.{Session}
 use Rattle.policy_machine.proofs.KeyFields.{one_fields}
-use Rattle.card_types.specs.Registry.{Registry}
 use Rattle.policy_machine.specs.declared.rule.Rule.TheVariants.{PK}
 use Rattle.policy_machine.specs.declared.put_key.RulePK.{RulePK}
 use Rattle.policy_machine.specs.ManagedForm.{command_form}

@@ -3,7 +3,7 @@ use Rattle.std.proofs.Common.{◌≡◌, inl, inr, ℕ, ◌+◌, List, [], ◌�
 use Rattle.std.specs.Prelude.{Contains}
 use Rattle.card_types.proofs.Members.{contains_cases}
 use Rattle.card_types.specs.Registry.{Key, Object, Registry}
-use Rattle.policy_machine.specs.KeyVersions.{is_key_numbered, with_keys}
+use Rattle.policy_machine.specs.KeySets.{is_key_numbered, with_keys}
 use Rattle.policy_machine.specs.Management.{acting}
 use Rattle.policy_machine.specs.PutKey.{keys_from, keys_left, managed_put_key}
 use Rattle.policy_machine.proofs.DeleteKeySpares.{not_numbered}

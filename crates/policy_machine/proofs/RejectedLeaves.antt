@@ -5,9 +5,8 @@ use Rattle.apdu_core.specs.Apdu.{Apdu, Short}
 use Rattle.policy_machine.specs.Admission.{GeneralFails, GeneralRefusalLeaves, Of, class_passed, general_rules, without_place}
 use Rattle.policy_machine.specs.Classes.{IsPlainManagement, channel_of}
 use Rattle.policy_machine.specs.Laws.{is_later}
-use Rattle.policy_machine.specs.State.{State}
+use Rattle.policy_machine.specs.State.{State, Volatile, without_session}
 use Rattle.policy_machine.specs.Step.{IsRejected, Outcome}
-use Rattle.policy_machine.specs.Volatile.{Volatile, without_session}
 use Rattle.policy_machine.specs.declared.rule.Rule.TheVariants.{G}
 use Rattle.policy_machine.specs.declared.rule.RuleG.{RuleG}
 use Rattle.policy_machine.specs.declared.rule.RuleG.TheVariants.{G1, G2, G3, G4, G5, G6, G7, G8}

@@ -3,7 +3,7 @@ use Rattle.std.proofs.Common.{List, refl}
 use Rattle.card_types.specs.Registry.{Counter, Key, Object, Registry}
 use Rattle.card_types.specs.declared.card_life.CardLife.{CardLife}
 use Rattle.policy_machine.specs.Sound.{Fits}
-use Rattle.policy_machine.specs.Volatile.{Volatile}
+use Rattle.policy_machine.specs.State.{Volatile}
 use Rattle.policy_machine.proofs.FitsKept.{fits_kept, same_files}
 
 module _ (registry : Registry) (life : CardLife) (keys : List Key) (counters : List Counter) (objects : List Object) where

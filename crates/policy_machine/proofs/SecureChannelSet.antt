@@ -4,7 +4,7 @@ use Rattle.std.specs.Prelude.{IsSome, MatchOption}
 use Rattle.std.proofs.lemmas.Bool.Decides.{eqb_tells}
 use Rattle.card_types.specs.Registry.{Registry}
 use Rattle.policy_machine.specs.Sound.{Fits, IsSecured, IsWellChannel, IsWellLoad, FitsSecureChannel}
-use Rattle.policy_machine.specs.Volatile.{Channel, LoadSession, Nothing, Offered, Secured, SecureChannel, Volatile, channel_at, load_without_channel, offer_in, offer_on, selected_of, selected_on, session_in, session_on, secure_channel_of, channel_with, with_offer_dropped, with_secure_channel, without_load, without_offer}
+use Rattle.policy_machine.specs.State.{Channel, LoadSession, Nothing, Offered, Secured, SecureChannel, Volatile, channel_at, load_without_channel, offer_in, offer_on, selected_of, selected_on, session_in, session_on, secure_channel_of, channel_with, with_offer_dropped, with_secure_channel, without_load, without_offer}
 use Rattle.scp03_card.specs.Offer.{Offer}
 use Rattle.scp03_card.specs.Session.{Session}
 use Rattle.policy_machine.proofs.SetChannel.{IsInSession, becomes_fits, ended_fits, set_fits}

@@ -2,13 +2,12 @@
 use Rattle.std.proofs.Common.{◌≡◌, ℕ, List, [], ◌∷◌, Bool, true, false, Option, None, Some, refl, sym, ap, subst, ◌∙◌}
 use Rattle.std.specs.Prelude.{IsSome, MatchOption, find, cond}
 use Rattle.card_types.proofs.SameAid.{aid_same_itself}
-use Rattle.card_types.specs.AidOrder.{same_aid}
+use Rattle.card_types.specs.Aid.{same_aid}
 use Rattle.card_types.specs.Registry.{Entry, Registry, entry_named}
 use Rattle.policy_machine.specs.Admission.{Admitted}
 use Rattle.policy_machine.specs.Select.{IsSelected, SelectEffect, fits_select, least_fitting, IsControlInformation, control_parts, select}
 use Rattle.policy_machine.specs.Sound.{Fits, IsSound}
-use Rattle.policy_machine.specs.State.{Effect}
-use Rattle.policy_machine.specs.Volatile.{Volatile, fresh, with_selected}
+use Rattle.policy_machine.specs.State.{Effect, Volatile, fresh, with_selected}
 use Rattle.policy_machine.proofs.SetChannel.{ended_fits}
 use Rattle.policy_machine.proofs.SecureChannelSet.{within}
 use Rattle.bertlv.proofs.SpellingLemmas.{one_spelling, one_spelling_each}

@@ -7,7 +7,7 @@ use Rattle.std.proofs.lemmas.List.{length-set, get_or-set_same, get_or-set_other
 use Rattle.card_types.specs.Registry.{Registry}
 use Rattle.policy_machine.specs.ManageChannel.{is_closed, lowest_closed}
 use Rattle.policy_machine.specs.Sound.{Fits, IsSecured, IsWellChannel, IsWellLoad}
-use Rattle.policy_machine.specs.Volatile.{Channel, LoadSession, Volatile, channel_at, load_without_channel, with_channel, without_load}
+use Rattle.policy_machine.specs.State.{Channel, LoadSession, Volatile, channel_at, load_without_channel, with_channel, without_load}
 use Rattle.policy_machine.proofs.FitsKept.{load_goes_on, same_files}
 
 -- a session is opened on the channel

@@ -6,7 +6,7 @@ use Rattle.bertlv.specs.Spelling.{AreElements, BeginsWith, Element, Spelling}
 use Rattle.bertlv.specs.Tag.{TagBytes}
 use Rattle.bertlv.proofs.SpellingLemmas.{spelling_front}
 use Rattle.card_types.specs.Well.{IsObject}
-use Rattle.policy_machine.specs.ObjectsFound.{AreObjects}
+use Rattle.policy_machine.specs.DataObjects.{AreObjects}
 use Rattle.policy_machine.specs.StoreData.{StoreDataField}
 
 some_field : (tag : ℕ) (field : List ℕ) → TagBytes tag field → 0 < length field

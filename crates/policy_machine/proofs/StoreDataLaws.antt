@@ -4,8 +4,7 @@ use Rattle.std.specs.Prelude.{All, filter, not}
 use Rattle.std.proofs.lemmas.List.Elements.{All-cons, All-filter, All-head, All-tail}
 use Rattle.std.proofs.lemmas.List.Sorted.{All-permutation, length_permutation, IsPermutation-sym, IsPermutation-trans}
 use Rattle.bertlv.specs.Spelling.{Element}
-use Rattle.card_types.specs.Ascending.{IsAscending, object_order}
-use Rattle.card_types.specs.Registry.{Object, Registry}
+use Rattle.card_types.specs.Registry.{IsAscending, object_order, Object, Registry}
 use Rattle.card_types.specs.Well.{IsDomainNamed, IsObject, IsWellObject, Well}
 use Rattle.card_types.specs.declared.limits.TheConstants.{OBJECTS}
 use Rattle.policy_machine.specs.Admission.{Admitted}
@@ -19,7 +18,7 @@ use Rattle.card_types.proofs.ObjectNames.{object_order_total}
 use Rattle.policy_machine.proofs.StoreDataElements.{one_list}
 use Rattle.policy_machine.proofs.SameThings.{same_fits}
 use Rattle.policy_machine.proofs.DataWell.{data_well}
-use Rattle.policy_machine.specs.JudgedForms.{IsJudgeable}
+use Rattle.policy_machine.specs.ManagedForm.{IsJudgeable}
 use Rattle.policy_machine.proofs.ManagedLawful.{IsManagedLawful, IsPassedFor, MayFollow, may_follow}
 
 module _ (registry : Registry) (owner : List ℕ) (domain : IsDomainNamed registry owner) where

@@ -8,7 +8,7 @@ use Rattle.card_types.specs.Registry.{Entry, Registry, domain_of, entry_named, i
 use Rattle.card_types.specs.Well.{IsDomainNamed}
 use Rattle.domain_tree.proofs.AboveChanges.{step_to_domain}
 use Rattle.domain_tree.proofs.Compared.{above_compared, above_further}
-use Rattle.domain_tree.specs.AboveLaws.{IsAboveIn}
+use Rattle.domain_tree.specs.Above.{IsAboveIn}
 use Rattle.policy_machine.specs.Charge.{IsAtOrAbove}
 use Rattle.policy_machine.specs.Isolation.{HasPowerOver}
 

@@ -5,7 +5,7 @@ use Rattle.card_types.specs.Registry.{Registry, domain_of}
 use Rattle.card_types.specs.Well.{IsDomainNamed}
 use Rattle.domain_tree.proofs.Compared.{above_compared, above_further, not_above_each_other}
 use Rattle.domain_tree.proofs.LinesStay.{above_stays, line_stays}
-use Rattle.domain_tree.specs.AboveLaws.{IsAboveIn}
+use Rattle.domain_tree.specs.Above.{IsAboveIn}
 use Rattle.domain_tree.specs.LineLaws.{StepsStay}
 use Rattle.policy_machine.specs.Admission.{Admitted}
 use Rattle.policy_machine.specs.Charge.{IsAtOrAbove}

@@ -4,7 +4,7 @@ use Rattle.std.specs.Prelude.{◌↔◌, Contains, find, map}
 use Rattle.std.specs.Option.{option_map}
 use Rattle.std.proofs.lemmas.Bool.{cond_both}
 use Rattle.card_types.proofs.Members.{contains_map, mapped}
-use Rattle.card_types.specs.AidOrder.{same_aid}
+use Rattle.card_types.specs.Aid.{same_aid}
 use Rattle.card_types.specs.Registry.{Entry, Key, LoadFile, Object, Registry, domain_of}
 use Rattle.card_types.specs.RegistryChange.{with_entries}
 use Rattle.domain_tree.proofs.DomainsStay.{domains_after_change}

@@ -6,7 +6,7 @@ use Rattle.std.proofs.lemmas.List.Elements.{All-contains}
 use Rattle.card_types.proofs.Members.{contains_map, mapped}
 use Rattle.card_types.proofs.NamedThings.{aid_cases, aid_differs}
 use Rattle.card_types.proofs.SameAid.{same_aid_decides}
-use Rattle.card_types.specs.AidOrder.{same_aid}
+use Rattle.card_types.specs.Aid.{same_aid}
 use Rattle.card_types.specs.ChangeLaws.{MayMove}
 use Rattle.card_types.specs.Registry.{Entry, LoadFile, Registry, domain_of, entry_named}
 use Rattle.card_types.specs.RegistryChange.{moved}
@@ -15,7 +15,7 @@ use Rattle.domain_tree.proofs.AboveBelow.{above_below_moved}
 use Rattle.domain_tree.proofs.AboveChanges.{above_moved, above_others_of_moved, none_above_root}
 use Rattle.domain_tree.proofs.Compared.{above_decided}
 use Rattle.domain_tree.proofs.DomainsStay.{domains_after_move}
-use Rattle.domain_tree.specs.AboveLaws.{IsAboveIn}
+use Rattle.domain_tree.specs.Above.{IsAboveIn}
 use Rattle.policy_machine.specs.Admission.{Admitted}
 use Rattle.policy_machine.specs.Charge.{IsAtOrAbove, IsInCharge}
 use Rattle.policy_machine.specs.Isolation.{IsEntrusted, MovesWith}

@@ -8,14 +8,14 @@ use Rattle.card_types.proofs.LeastOfList.{found_fits}
 use Rattle.card_types.proofs.Members.{contains_filter, filtered}
 use Rattle.card_types.proofs.NamedThings.{aid_differs, member_named}
 use Rattle.card_types.proofs.SameAid.{aid_same_itself}
-use Rattle.card_types.specs.AidOrder.{same_aid}
+use Rattle.card_types.specs.Aid.{same_aid}
 use Rattle.card_types.specs.ChangeLaws.{IsOfCard}
 use Rattle.card_types.specs.Hierarchy.{IsPath}
 use Rattle.card_types.specs.Registry.{Entry, Key, LoadFile, Object, Registry, domain_of, entry_named}
 use Rattle.card_types.specs.RegistryChange.{without_applications}
 use Rattle.card_types.specs.Well.{IsWellKey, IsWellObject}
 use Rattle.domain_tree.proofs.DomainsStay.{domains_after_applications, domains_after_entry}
-use Rattle.domain_tree.specs.AboveLaws.{IsAboveIn}
+use Rattle.domain_tree.specs.Above.{IsAboveIn}
 use Rattle.policy_machine.specs.Admission.{Admitted}
 use Rattle.policy_machine.specs.Charge.{IsAtOrAbove, IsInCharge}
 use Rattle.policy_machine.specs.DeleteObject.{ComesFrom, IsToGo, without_thing}

@@ -12,10 +12,9 @@ use Rattle.policy_machine.specs.Isolation.{BringsInto, HasPowerOver, IsEntrusted
 use Rattle.policy_machine.specs.RunsApart.{TreesStay}
 use Rattle.policy_machine.specs.Management.{acting}
 use Rattle.policy_machine.specs.Sound.{IsSound}
-use Rattle.policy_machine.specs.State.{State}
+use Rattle.policy_machine.specs.State.{State, selected_on}
 use Rattle.policy_machine.specs.Step.{IsAccepted, Outcome}
 use Rattle.policy_machine.specs.Trees.{InTreeOf, Member, TreeStays}
-use Rattle.policy_machine.specs.Volatile.{selected_on}
 use Rattle.policy_machine.proofs.AllSparing.{all_sparing}
 use Rattle.policy_machine.proofs.FormTaken.{Accepts, accepting_form, pick_form}
 use Rattle.policy_machine.proofs.KeepsSound.{admitted_is_ready}

@@ -2,7 +2,7 @@
 use Rattle.std.specs.Prelude.{◌≡◌, ◌⊎◌, ℕ, List, Bool, true, false, Option, None, Some, MatchOption, IsSome}
 use Rattle.card_types.specs.Privileges.{has}
 use Rattle.card_types.specs.Registry.{Entry, LoadFile, Registry, entry_named, file_named}
-use Rattle.domain_tree.specs.AboveLaws.{IsAboveIn}
+use Rattle.domain_tree.specs.Above.{IsAboveIn}
 
 -- it is an entry that holds the privilege
 abbrev pub is_privileged : ℕ → Option Entry → Bool

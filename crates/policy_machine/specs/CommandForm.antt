@@ -1,7 +1,7 @@
 -- What a command is.
 use Rattle.std.specs.Prelude.{ℕ, List, Option}
 use Rattle.policy_machine.specs.Admission.{Admitted}
-use Rattle.policy_machine.specs.FirstFailing.{IsFirst}
+use Rattle.policy_machine.specs.Refusal.{IsFirst}
 use Rattle.policy_machine.specs.State.{Effect}
 use Rattle.policy_machine.specs.declared.rule.Rule.{Rule}
 

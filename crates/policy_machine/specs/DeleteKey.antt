@@ -1,10 +1,10 @@
 -- DELETE of a key (GlobalPlatform Card Specification 2.3.1, 11.2): the keys of the selected domain with one key version number go.
 use Rattle.std.specs.Prelude.{◌≡◌, ◌≢◌, ◌⊎◌, ℕ, ◌<◌, List, [], ◌∷◌, Option, None, Some, MatchOption, codes, false, find}
-use Rattle.card_types.specs.AidOrder.{same_aid}
+use Rattle.card_types.specs.Aid.{same_aid}
 use Rattle.card_types.specs.Well.{IsRoot}
 use Rattle.policy_machine.specs.Admission.{Admitted}
 use Rattle.policy_machine.specs.Delegation.{unconfirmed}
-use Rattle.policy_machine.specs.KeyVersions.{counters_but, has_key_version, keys_but, with_keys}
+use Rattle.policy_machine.specs.KeySets.{counters_but, has_key_version, keys_but, with_keys}
 use Rattle.policy_machine.specs.Management.{acting}
 use Rattle.policy_machine.specs.Refusal.{Refusal, refusal}
 use Rattle.policy_machine.specs.declared.delete_key.RuleDK.{RuleDK}

@@ -13,7 +13,7 @@ use Rattle.policy_machine.specs.DeleteKey.{DeleteParameters}
 use Rattle.policy_machine.specs.Delegation.{Approval, Holds, MayManage, delegation_rules, unconfirmed}
 use Rattle.policy_machine.specs.Management.{acting}
 use Rattle.policy_machine.specs.Refusal.{Refusal, refusal}
-use Rattle.policy_machine.specs.Volatile.{Volatile, channel_at}
+use Rattle.policy_machine.specs.State.{Volatile, channel_at}
 use Rattle.policy_machine.specs.declared.delete_object.RuleDO.{RuleDO}
 use Rattle.policy_machine.specs.declared.delete_object.RuleDO.TheVariants.{DO1, DO2, DO3, DO4}
 use Rattle.policy_machine.specs.declared.rule.Rule.TheVariants.{DO}

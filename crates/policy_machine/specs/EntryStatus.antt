@@ -8,7 +8,7 @@ use Rattle.card_types.specs.Well.{IsDomainNamed}
 use Rattle.card_types.specs.declared.factory.TheConstants.{ISSUER}
 use Rattle.card_types.specs.declared.life.Life.TheVariants.{Selectable}
 use Rattle.card_types.specs.declared.life.LifeMark.{LifeMark}
-use Rattle.domain_tree.specs.AboveLaws.{IsAboveIn, IsTreeOf}
+use Rattle.domain_tree.specs.Above.{IsAboveIn, IsTreeOf}
 use Rattle.policy_machine.specs.Admission.{Admitted}
 use Rattle.policy_machine.specs.Delegation.{Holds}
 use Rattle.policy_machine.specs.Extradition.{is_personalized}

@@ -6,8 +6,7 @@ use Rattle.scp03_card.specs.Offer.{Offer}
 use Rattle.scp03_card.specs.Session.{HasCryptogram, HasMac, answered}
 use Rattle.policy_machine.specs.Admission.{Admitted}
 use Rattle.policy_machine.specs.CommandForm.{CommandForm}
-use Rattle.policy_machine.specs.State.{Effect}
-use Rattle.policy_machine.specs.Volatile.{Secured, offer_on, with_secure_channel}
+use Rattle.policy_machine.specs.State.{Effect, Secured, offer_on, with_secure_channel}
 use Rattle.policy_machine.specs.Refusal.{Refusal, refusal}
 use Rattle.policy_machine.specs.declared.external_authenticate.RuleEA.{RuleEA}
 use Rattle.policy_machine.specs.declared.external_authenticate.RuleEA.TheVariants.{EA1, EA2, EA3}

@@ -10,7 +10,7 @@ use Rattle.card_types.specs.Well.{IsDomainNamed}
 use Rattle.card_types.specs.declared.factory.TheConstants.{FACTORY_FILE, ISSUER}
 use Rattle.card_types.specs.declared.life.Life.TheVariants.{Personalized}
 use Rattle.card_types.specs.declared.life.LifeMark.{LifeMark}
-use Rattle.domain_tree.specs.AboveLaws.{IsAboveIn}
+use Rattle.domain_tree.specs.Above.{IsAboveIn}
 use Rattle.policy_machine.specs.Admission.{Admitted}
 use Rattle.policy_machine.specs.Charge.{IsAtOrAbove, IsInCharge}
 use Rattle.policy_machine.specs.Delegation.{Holds, IsVerifier, MayManage, NoVerifier, unconfirmed}

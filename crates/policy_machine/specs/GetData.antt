@@ -7,8 +7,7 @@ use Rattle.scp03_card.specs.Offer.{counter_bytes}
 use Rattle.policy_machine.specs.Admission.{Admitted}
 use Rattle.policy_machine.specs.CommandForm.{CommandForm}
 use Rattle.policy_machine.specs.KeySets.{UsesCounter}
-use Rattle.policy_machine.specs.State.{Effect}
-use Rattle.policy_machine.specs.Volatile.{selected_on}
+use Rattle.policy_machine.specs.State.{Effect, selected_on}
 use Rattle.policy_machine.specs.Refusal.{Refusal, refusal}
 use Rattle.policy_machine.specs.declared.rule.Rule.{Rule}
 use Rattle.policy_machine.specs.declared.rule.Rule.TheVariants.{GD}

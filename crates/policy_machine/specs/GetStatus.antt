@@ -5,7 +5,7 @@ use Rattle.std.specs.List.{starts_with}
 use Rattle.std.specs.List.Sorted.{IsStrictlySortedBy}
 use Rattle.apdu_core.specs.Apdu.{Apdu}
 use Rattle.bertlv.specs.Spelling.{AreElements, Element, Spelling}
-use Rattle.card_types.specs.AidOrder.{aid_order, same_aid}
+use Rattle.card_types.specs.Aid.{aid_order, same_aid}
 use Rattle.card_types.specs.CardLife.{card_life_code}
 use Rattle.card_types.specs.Found.{IsAbove}
 use Rattle.card_types.specs.LifeMark.{life_mark_code}
@@ -17,8 +17,7 @@ use Rattle.policy_machine.specs.Charge.{HoldsPrivilege, IsAtOrAbove}
 use Rattle.policy_machine.specs.CommandForm.{CommandForm}
 use Rattle.policy_machine.specs.Management.{ManagementFails, acting}
 use Rattle.policy_machine.specs.Refusal.{Refusal, refusal}
-use Rattle.policy_machine.specs.State.{Effect}
-use Rattle.policy_machine.specs.Volatile.{Channel, Place, Volatile, channel_at, place_in, with_channel}
+use Rattle.policy_machine.specs.State.{Effect, Channel, Place, Volatile, channel_at, place_in, with_channel}
 use Rattle.policy_machine.specs.declared.get_status.RuleGS.{RuleGS}
 use Rattle.policy_machine.specs.declared.get_status.RuleGS.TheVariants.{GS1, GS2}
 use Rattle.policy_machine.specs.declared.management.RuleM.TheVariants.{M2}

@@ -10,8 +10,7 @@ use Rattle.policy_machine.specs.CommandForm.{CommandForm}
 use Rattle.policy_machine.specs.KeySets.{UsesSet}
 use Rattle.policy_machine.specs.Management.{ManagementFails, acting}
 use Rattle.policy_machine.specs.Select.{is_card_locked}
-use Rattle.policy_machine.specs.State.{Effect}
-use Rattle.policy_machine.specs.Volatile.{Offered, with_secure_channel}
+use Rattle.policy_machine.specs.State.{Effect, Offered, with_secure_channel}
 use Rattle.policy_machine.specs.Refusal.{Refusal, refusal}
 use Rattle.policy_machine.specs.declared.initialize_update.RuleIU.{RuleIU}
 use Rattle.policy_machine.specs.declared.initialize_update.RuleIU.TheVariants.{IU1, IU2, IU3}

@@ -3,8 +3,7 @@
 use Rattle.std.specs.Prelude.{◌≡◌, ◌≢◌, ◌⊎◌, ℕ, ◌≤◌, List, [], ◌∷◌, Contains, MatchOption, None, codes, false, true, IsSome, if◌then◌else◌, length, ◌==◌, ◌&&◌}
 use Rattle.std.specs.Int.RustNames.{bit_and}
 use Rattle.bertlv.specs.Spelling.{AreElements, Element}
-use Rattle.card_types.specs.Aid.{IsAid}
-use Rattle.card_types.specs.AidOrder.{same_aid}
+use Rattle.card_types.specs.Aid.{IsAid, same_aid}
 use Rattle.card_types.specs.Privileges.{ArePrivilegeBytes, authorized_management, bits_of, delegated_management, has, receipt_generation, token_verification}
 use Rattle.card_types.specs.Registry.{Entry, entry_named, file_named, is_domain}
 use Rattle.card_types.specs.RegistryChange.{IsEntryAdded}

@@ -16,8 +16,7 @@ use Rattle.policy_machine.specs.InstallFields.{AreLengthFields}
 use Rattle.policy_machine.specs.Management.{acting}
 use Rattle.policy_machine.specs.Refusal.{Refusal, refusal}
 use Rattle.policy_machine.specs.Sound.{IsHashLength}
-use Rattle.policy_machine.specs.State.{Effect}
-use Rattle.policy_machine.specs.Volatile.{LoadSession, with_load}
+use Rattle.policy_machine.specs.State.{Effect, LoadSession, with_load}
 use Rattle.policy_machine.specs.declared.install_load.RuleIL.{RuleIL}
 use Rattle.policy_machine.specs.declared.install_load.RuleIL.TheVariants.{IL1, IL2, IL3, IL4, IL5, IL6, IL7}
 use Rattle.policy_machine.specs.declared.rule.Rule.TheVariants.{IL, TK}

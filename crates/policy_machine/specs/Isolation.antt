@@ -3,7 +3,7 @@
 use Rattle.std.specs.Prelude.{◌≡◌, ◌⊎◌, ℕ, List, Contains, None}
 use Rattle.card_types.specs.Privileges.{delegated_management}
 use Rattle.card_types.specs.Registry.{Key, Registry}
-use Rattle.domain_tree.specs.AboveLaws.{IsAboveIn}
+use Rattle.domain_tree.specs.Above.{IsAboveIn}
 use Rattle.tokens_receipts.specs.Token.{token}
 use Rattle.policy_machine.specs.Admission.{Admits, Admitted, Of}
 use Rattle.policy_machine.specs.Charge.{HoldsPrivilege, IsAtOrAbove}
@@ -16,10 +16,9 @@ use Rattle.policy_machine.specs.Extradition.{AsksToExtradite, managed_extraditio
 use Rattle.policy_machine.specs.InstallFields.{InstallData, approval_in}
 use Rattle.policy_machine.specs.ManagedForm.{command_form}
 use Rattle.policy_machine.specs.Management.{acting}
-use Rattle.policy_machine.specs.State.{State}
+use Rattle.policy_machine.specs.State.{State, selected_on}
 use Rattle.policy_machine.specs.Step.{Outcome}
 use Rattle.policy_machine.specs.Trees.{AFile, Member, place_of}
-use Rattle.policy_machine.specs.Volatile.{selected_on}
 
 -- The bytes are a command that may change the registry, no rule refuses it, and it acts for this domain: the one that is selected on
 -- its channel.

@@ -1,9 +1,10 @@
 -- Which key sets a session uses: those of the domain itself, or where it has none, those of the nearest domain above it
 -- that has one. This is the profile's own choice (Amendment D, 7.1.1, leaves it open).
-use Rattle.std.specs.Prelude.{◌≡◌, ℕ, List, Bool, Option, Some, find, is_some, ◌==◌, ◌&&◌, if◌then◌else◌}
-use Rattle.card_types.specs.AidOrder.{same_aid}
+use Rattle.std.specs.List.{list_any}
+use Rattle.std.specs.Prelude.{◌≡◌, ℕ, List, Bool, Option, Some, find, is_some, ◌==◌, ◌&&◌, if◌then◌else◌, filter, not}
+use Rattle.card_types.specs.Aid.{same_aid}
 use Rattle.card_types.specs.Hierarchy.{IsLine}
-use Rattle.card_types.specs.Registry.{Counter, Registry, domain_of}
+use Rattle.card_types.specs.Registry.{Counter, Registry, domain_of, Key}
 
 -- the counter of the key set with the lowest key version number, of a domain's own
 abbrev pub lowest_counter : Registry → List ℕ → Option Counter
@@ -35,3 +36,34 @@ UsesSet registry domain version owner counter = OwnsSets registry domain owner �
 -- there is no such key set
 abbrev pub NoSetToUse : Registry → List ℕ → ℕ → Type 0
 NoSetToUse registry domain version = (owner : List ℕ) (counter : Counter) → UsesSet registry domain version owner counter → ⊥
+
+-- The keys of a domain with one key version number, and what is left where they go (GlobalPlatform Card Specification 2.3.1,
+-- 11.2 and 11.8). No key has key version number 00.
+
+abbrev pub is_key_numbered : List ℕ → ℕ → Key → Bool
+is_key_numbered owner version key = same_aid key.owner owner && key.version == version
+
+abbrev pub is_counter_numbered : List ℕ → ℕ → Counter → Bool
+is_counter_numbered owner version counter = same_aid counter.owner owner && counter.version == version
+
+-- the domain has a key of this key version number
+abbrev pub has_key_version : Registry → List ℕ → ℕ → Bool
+has_key_version registry owner version = list_any (is_key_numbered owner version) registry.keys
+
+-- the keys without those of a domain with a key version number, and the sequence counters without that of this key set
+abbrev pub keys_but : List ℕ → ℕ → List Key → List Key
+keys_but owner version keys = filter (λ key. not (is_key_numbered owner version key)) keys
+
+abbrev pub counters_but : List ℕ → ℕ → List Counter → List Counter
+counters_but owner version counters = filter (λ counter. not (is_counter_numbered owner version counter)) counters
+
+-- the registry with other keys and sequence counters
+abbrev pub with_keys : Registry → List Key → List Counter → Registry
+with_keys registry keys counters = record {
+  life = registry.life;
+  entries = registry.entries;
+  files = registry.files;
+  keys = keys;
+  counters = counters;
+  objects = registry.objects;
+}

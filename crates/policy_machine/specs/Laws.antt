@@ -1,7 +1,6 @@
 -- The laws of the policy machine.
 use Rattle.std.specs.Prelude.{◌≡◌, ◌≢◌, ℕ, List, Bool, true, false, None, MatchOption, map}
-use Rattle.card_types.specs.Ascending.{IsAscending}
-use Rattle.card_types.specs.Registry.{Registry}
+use Rattle.card_types.specs.Registry.{IsAscending, Registry}
 use Rattle.card_types.specs.Well.{Well}
 use Rattle.policy_machine.specs.Admission.{Of}
 use Rattle.policy_machine.specs.Changes.{Changes, OpensInSession, without_number}
@@ -10,9 +9,8 @@ use Rattle.policy_machine.specs.Commands.{AtMostOne, Takes, forms_of}
 use Rattle.policy_machine.specs.Receipts.{AllCountReceipts, CountsReceipts}
 use Rattle.policy_machine.specs.Run.{Input, Run}
 use Rattle.policy_machine.specs.Sound.{IsSound}
-use Rattle.policy_machine.specs.State.{State, powered_on}
+use Rattle.policy_machine.specs.State.{State, powered_on, channel_at, offer_on, place_in}
 use Rattle.policy_machine.specs.Step.{Outcome, Step}
-use Rattle.policy_machine.specs.Volatile.{channel_at, offer_on, place_in}
 use Rattle.policy_machine.specs.declared.instruction.TheConstants.{GET_STATUS}
 use Rattle.policy_machine.specs.declared.rule.Rule.{Rule}
 use Rattle.policy_machine.specs.declared.rule.Rule.TheVariants.{G}

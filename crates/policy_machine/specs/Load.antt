@@ -12,8 +12,7 @@ use Rattle.policy_machine.specs.Delegation.{Holds, IsAnswered, unconfirmed, Rece
 use Rattle.policy_machine.specs.LoadBlocks.{Block, BringsBytes, HasNoLength, HasNoRoom, HasOtherCount, HasOtherHash, with_block}
 use Rattle.policy_machine.specs.Management.{ManagementFails, acting}
 use Rattle.policy_machine.specs.Refusal.{Refusal, refusal}
-use Rattle.policy_machine.specs.State.{Effect}
-use Rattle.policy_machine.specs.Volatile.{LoadSession, without_load}
+use Rattle.policy_machine.specs.State.{Effect, LoadSession, without_load}
 use Rattle.policy_machine.specs.declared.delegation.RuleRC.TheVariants.{RC1}
 use Rattle.policy_machine.specs.declared.load.RuleLO.{RuleLO}
 use Rattle.policy_machine.specs.declared.load.RuleLO.TheVariants.{LO1, LO2, LO3, LO4, LO5, LO6, LO7, LO8}

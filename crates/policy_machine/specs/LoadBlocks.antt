@@ -6,7 +6,7 @@ use Rattle.bertlv.specs.Length.{LengthBytes}
 use Rattle.card_types.specs.Registry.{Registry}
 use Rattle.card_types.specs.Well.{pages_of}
 use Rattle.card_types.specs.declared.limits.TheConstants.{FILE_LIMIT, LOAD_PAGES}
-use Rattle.policy_machine.specs.Volatile.{LoadSession}
+use Rattle.policy_machine.specs.State.{LoadSession}
 use Rattle.sha1.specs.Sha1.{sha1}
 use Rattle.sha2.specs.Sha256.{sha256}
 

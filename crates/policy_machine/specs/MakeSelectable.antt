@@ -8,7 +8,7 @@ use Rattle.card_types.specs.RegistryChange.{with_life}
 use Rattle.card_types.specs.declared.life.Life.TheVariants.{Installed, Selectable}
 use Rattle.card_types.specs.declared.life.LifeMark.{LifeMark}
 use Rattle.card_types.specs.declared.privileges.Privileges.{Privileges}
-use Rattle.domain_tree.specs.AboveLaws.{IsAboveIn}
+use Rattle.domain_tree.specs.Above.{IsAboveIn}
 use Rattle.policy_machine.specs.Admission.{Admitted}
 use Rattle.policy_machine.specs.Delegation.{MayManage, unconfirmed}
 use Rattle.policy_machine.specs.InstallFields.{InstallData, IsInstallData, approval_in}

@@ -1,13 +1,13 @@
 -- Card content management: what a form of these commands asks for, by which rules it is judged, and what it makes of the registry
 -- (GlobalPlatform Card Specification 2.3.1, chapter 9).
-use Rattle.std.specs.Prelude.{◌≡◌, ℕ, List, [], ◌++◌, Option, map}
+use Rattle.std.specs.Prelude.{◌≡◌, ℕ, List, [], ◌++◌, Option, map, ◌∷◌}
 use Rattle.card_types.specs.Privileges.{delegated_management}
 use Rattle.card_types.specs.Registry.{Registry}
 use Rattle.policy_machine.specs.Admission.{Admitted}
 use Rattle.policy_machine.specs.CommandForm.{CommandForm}
 use Rattle.policy_machine.specs.Delegation.{Approval, Holds, IsAnswered, ReceiptFails, TokenFails, delegation_rules}
-use Rattle.policy_machine.specs.FirstFailing.{IsFirst}
 use Rattle.policy_machine.specs.Management.{ManagementFails}
+use Rattle.policy_machine.specs.Refusal.{IsFirst}
 use Rattle.policy_machine.specs.State.{Effect}
 use Rattle.policy_machine.specs.declared.management.RuleM.{RuleM}
 use Rattle.policy_machine.specs.declared.rule.Rule.{Rule}
@@ -106,3 +106,28 @@ command_form form = judged_form form.judged (ManagedConfirms form) (ManagedEffec
 -- the first of a form's own rules that fails for what is asked, or none
 abbrev pub OwnFirst : (form : JudgedForm) → Admitted → form.Asked → Option form.Own → Type 0
 OwnFirst form admitted asked = IsFirst (form.fails admitted asked) form.own_rules
+
+-- For the code inside. Forms whose commands are judged for what they ask for.
+
+-- a rule on what is asked, and one that is not on its approval
+abbrev pub IsOnAsked : Rule → Type 0
+IsOnAsked (M rule) = ⊥
+IsOnAsked rule = Unit {0}
+
+abbrev pub IsOwn : Rule → Type 0
+IsOwn (M rule) = ⊥
+IsOwn (TK rule) = ⊥
+IsOwn (RC rule) = ⊥
+IsOwn rule = Unit {0}
+
+-- it holds of each of these rules
+abbrev pub OfEach : {R : Type 0} → (R → Type 0) → List R → Type 0
+OfEach holds [] = Unit {0}
+OfEach holds (rule ∷ rules) = holds rule × OfEach holds rules
+
+-- A data field asks for one thing, and the rules are of their kinds.
+pub record IsJudgeable (form : JudgedForm) : Type 0 where
+  pub one_asked : (p1 p2 : ℕ) (body : List ℕ) (a b : form.Asked) → form.asks p1 p2 body a → form.asks p1 p2 body b → a ≡ b
+  pub own : (one : form.Own) → IsOwn (form.group one)
+  pub one_rule : (a b : form.Own) → form.group a ≡ form.group b → a ≡ b
+  pub approving : OfEach IsOnAsked form.delegation.rules

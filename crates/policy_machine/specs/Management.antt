@@ -5,7 +5,7 @@ use Rattle.card_types.specs.Registry.{entry_named}
 use Rattle.card_types.specs.declared.factory.TheConstants.{ISSUER}
 use Rattle.policy_machine.specs.Admission.{Admitted}
 use Rattle.policy_machine.specs.Select.{is_card_locked}
-use Rattle.policy_machine.specs.Volatile.{selected_on}
+use Rattle.policy_machine.specs.State.{selected_on}
 use Rattle.policy_machine.specs.Refusal.{Refusal, refusal}
 use Rattle.policy_machine.specs.declared.management.RuleM.{RuleM}
 use Rattle.policy_machine.specs.declared.management.RuleM.TheVariants.{M1, M2, M3}

@@ -7,9 +7,8 @@ use Rattle.policy_machine.specs.Admission.{Admitted, admitted_as, session_for}
 use Rattle.policy_machine.specs.Classes.{IsKnown, is_protected}
 use Rattle.policy_machine.specs.Commands.{Judges}
 use Rattle.policy_machine.specs.Sound.{IsSound}
-use Rattle.policy_machine.specs.State.{State}
+use Rattle.policy_machine.specs.State.{State, Channel, Volatile, channel_at, place_in}
 use Rattle.policy_machine.specs.Step.{Outcome, Step}
-use Rattle.policy_machine.specs.Volatile.{Channel, Volatile, channel_at, place_in}
 use Rattle.policy_machine.specs.declared.instruction.TheConstants.{EXTERNAL_AUTHENTICATE, PUT_KEY}
 use Rattle.policy_machine.specs.declared.rule.Rule.{Rule}
 use Rattle.scp03_card.specs.Opens.{Opens, accepting}

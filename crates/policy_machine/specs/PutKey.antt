@@ -3,18 +3,17 @@
 use Rattle.std.specs.Prelude.{◌≡◌, ◌≢◌, ◌⊎◌, ℕ, ◌+◌, ◌*◌, ◌/◌, ◌<◌, ◌≤◌, List, [], ◌∷◌, ◌++◌, All, Bool, MatchOption, codes, false, filter, if◌then◌else◌, length, map, nat_lt, replicate, take, true, ◌==◌}
 use Rattle.std.specs.List.{concat}
 use Rattle.aes_block.specs.Cipher.{cipher}
-use Rattle.card_types.specs.AidOrder.{same_aid}
-use Rattle.card_types.specs.Ascending.{counter_order, key_order}
-use Rattle.card_types.specs.Registry.{Counter, Key, Registry}
+use Rattle.card_types.specs.Aid.{same_aid}
+use Rattle.card_types.specs.Registry.{counter_order, key_order, Counter, Key, Registry}
 use Rattle.card_types.specs.Well.{IsKeyLength}
 use Rattle.card_types.specs.declared.limits.TheConstants.{DOMAIN_KEYS, KEYS}
 use Rattle.cmac_kdf.specs.Blocks.{IsBytes, zero_block}
 use Rattle.cmac_kdf.specs.Cbc.{cbc}
 use Rattle.policy_machine.specs.Admission.{Admitted}
 use Rattle.policy_machine.specs.Arranged.{IsArranged}
-use Rattle.policy_machine.specs.KeyVersions.{counters_but, has_key_version, keys_but, with_keys}
+use Rattle.policy_machine.specs.KeySets.{counters_but, has_key_version, keys_but, with_keys}
 use Rattle.policy_machine.specs.Management.{acting}
-use Rattle.policy_machine.specs.Volatile.{session_on}
+use Rattle.policy_machine.specs.State.{session_on}
 use Rattle.policy_machine.specs.Refusal.{Refusal, refusal}
 use Rattle.policy_machine.specs.declared.put_key.RulePK.{RulePK}
 use Rattle.policy_machine.specs.declared.put_key.RulePK.TheVariants.{PK1, PK2, PK3, PK4}

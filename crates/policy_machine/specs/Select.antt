@@ -2,7 +2,7 @@
 use Rattle.std.specs.Prelude.{◌≡◌, ℕ, ◌≤◌, List, [], ◌∷◌, Bool, true, false, ◌&&◌, ◌||◌, not, Option, None, MatchOption, find, length, if◌then◌else◌, ◌==◌, nat_eq, codes}
 use Rattle.std.specs.List.{starts_with}
 use Rattle.bertlv.specs.Spelling.{AreElements, Element, Spelling}
-use Rattle.card_types.specs.AidOrder.{same_aid}
+use Rattle.card_types.specs.Aid.{same_aid}
 use Rattle.card_types.specs.Registry.{Entry, Registry}
 use Rattle.card_types.specs.declared.card_life.CardLife.{CardLife}
 use Rattle.card_types.specs.declared.card_life.CardLife.TheVariants as card
@@ -12,8 +12,7 @@ use Rattle.card_types.specs.declared.life.Life.TheVariants as life
 use Rattle.card_types.specs.declared.life.LifeMark.{LifeMark}
 use Rattle.policy_machine.specs.Admission.{Admitted}
 use Rattle.policy_machine.specs.CommandForm.{CommandForm}
-use Rattle.policy_machine.specs.State.{Effect}
-use Rattle.policy_machine.specs.Volatile.{with_selected}
+use Rattle.policy_machine.specs.State.{Effect, with_selected}
 use Rattle.policy_machine.specs.Refusal.{Refusal, refusal}
 use Rattle.policy_machine.specs.declared.rule.Rule.{Rule}
 use Rattle.policy_machine.specs.declared.rule.Rule.TheVariants.{SE}

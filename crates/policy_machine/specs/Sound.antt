@@ -3,13 +3,11 @@
 use Rattle.std.specs.Prelude.{◌≡◌, ◌≢◌, ◌⊎◌, ℕ, ◌+◌, ◌<◌, ◌≤◌, List, length, Option, None, Some, MatchOption, IsSome}
 use Rattle.std.specs.List.{sum_by}
 use Rattle.card_types.specs.Aid.{IsAid}
-use Rattle.card_types.specs.Ascending.{IsAscending}
-use Rattle.card_types.specs.Registry.{Registry, entry_named, file_named}
+use Rattle.card_types.specs.Registry.{IsAscending, Registry, entry_named, file_named}
 use Rattle.card_types.specs.Well.{IsDomainNamed, IsKeyLength, Well, pages_of}
 use Rattle.card_types.specs.declared.limits.TheConstants.{FILES, FILE_LIMIT, LOAD_PAGES}
-use Rattle.policy_machine.specs.State.{State}
+use Rattle.policy_machine.specs.State.{State, Channel, LoadSession, SecureChannel, Nothing, Offered, Secured, Volatile, channel_at}
 use Rattle.scp03_card.specs.Offer.{Offer}
-use Rattle.policy_machine.specs.Volatile.{Channel, LoadSession, SecureChannel, Nothing, Offered, Secured, Volatile, channel_at}
 use Rattle.policy_machine.specs.declared.channels.TheConstants.{CHANNELS}
 
 -- three static keys of one length, and challenges of 8 bytes

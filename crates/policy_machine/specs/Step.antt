@@ -5,10 +5,9 @@ use Rattle.scp03_card.specs.Protected.{protected}
 use Rattle.scp03_card.specs.Session.{Session}
 use Rattle.policy_machine.specs.Admission.{Admits, Admitted, GeneralRefusalLeaves, GeneralFails, general_rules}
 use Rattle.policy_machine.specs.Commands.{HasEffect, Judges}
-use Rattle.policy_machine.specs.FirstFailing.{IsFirst}
+use Rattle.policy_machine.specs.Refusal.{IsFirst}
 use Rattle.policy_machine.specs.Rules.{status_of}
-use Rattle.policy_machine.specs.State.{Effect, State}
-use Rattle.policy_machine.specs.Volatile.{Volatile, with_offer_dropped, without_load}
+use Rattle.policy_machine.specs.State.{Effect, State, Volatile, with_offer_dropped, without_load}
 use Rattle.policy_machine.specs.declared.load.RuleLO.TheVariants.{LO2}
 use Rattle.policy_machine.specs.declared.rule.Rule.{Rule}
 use Rattle.policy_machine.specs.declared.rule.Rule.TheVariants.{G, LO, PS}

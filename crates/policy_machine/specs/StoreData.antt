@@ -2,8 +2,7 @@
 -- the one with its tag.
 use Rattle.std.specs.Prelude.{◌≡◌, ◌≢◌, ◌⊎◌, ℕ, ◌<◌, List, [], ◌∷◌, All, codes, length}
 use Rattle.bertlv.specs.Spelling.{AreElements, Element}
-use Rattle.card_types.specs.Ascending.{object_order}
-use Rattle.card_types.specs.Registry.{Object, Registry}
+use Rattle.card_types.specs.Registry.{object_order, Object, Registry}
 use Rattle.card_types.specs.Well.{IsObject}
 use Rattle.card_types.specs.declared.limits.TheConstants.{OBJECTS}
 use Rattle.policy_machine.specs.Admission.{Admitted}

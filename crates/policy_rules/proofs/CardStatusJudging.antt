@@ -23,7 +23,7 @@ use Rattle.policy_machine.specs.ManagedForm.{OwnFirst, command_form}
 use Rattle.policy_rules.specs.SetStatusRequests.{IsCardStatusOf, IsStepBy, MayStep}
 use Rattle.policy_rules.specs.declared.card_status.CardStep.{CardStep}
 use Rattle.policy_rules.specs.declared.card_status.CardStep.TheVariants.{Prepare, Lock, Terminate}
-use Rattle.policy_slots.specs.Acting.{ActsIn}
+use Rattle.policy_slots.specs.StateShown.{ActsIn}
 
 -- it is the card's own state that is set
 pub of_card : (code : ℕ) (command : Apdu) → IsCardStatusOf code command → IsTrue true ↔ (command.p1 ≡ 0x80)

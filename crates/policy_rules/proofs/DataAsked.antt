@@ -3,14 +3,13 @@ use Rattle.std.proofs.Common.{◌≡◌, ◌≢◌, ℕ, List, [], ◌∷◌, �
 use Rattle.std.specs.Prelude.{map}
 use Rattle.bertlv.specs.Spelling.{AreElements, Spelling}
 use Rattle.card_types.specs.Registry as registry
-use Rattle.card_types.specs.Represents.{Represents, domain_aid, key_of}
-use Rattle.card_types.specs.Slots.{held}
+use Rattle.card_types.specs.Represents.{Represents, domain_aid, key_of, held}
 use Rattle.card_types.specs.Well.{Well}
 use Rattle.card_types.specs.declared.tables.Entry.{Entry}
 use Rattle.card_types.specs.declared.tables.Tables.{Tables}
 use Rattle.policy_machine.specs.Admission.{Admitted}
 use Rattle.policy_machine.specs.GetData.{AsksFor, HasData, key_information, tag_of}
-use Rattle.policy_machine.specs.Volatile.{selected_on}
+use Rattle.policy_machine.specs.State.{selected_on}
 use Rattle.policy_rules.specs.Found.{IsFor}
 use Rattle.policy_rules.specs.declared.get_data.Datum.{Datum}
 use Rattle.policy_rules.specs.declared.get_data.Datum.TheVariants.{Keys, Counter, Object}

@@ -6,11 +6,10 @@ use Rattle.std.proofs.lemmas.List.Elements.{All-contains}
 use Rattle.bertlv.specs.Tag.{IsTag}
 use Rattle.card_types.proofs.LeastOfList.{found_fits}
 use Rattle.card_types.proofs.ObjectNames.{object_in_slot, object_unnamed, objects_shown}
-use Rattle.card_types.specs.AidOrder.{same_aid}
-use Rattle.card_types.specs.Least.{NoneFits}
+use Rattle.card_types.specs.Aid.{same_aid}
+use Rattle.card_types.specs.Search.{NoneFits}
 use Rattle.card_types.specs.Registry as registry
-use Rattle.card_types.specs.Represents.{Represents, counter_of, domain_aid, object_of}
-use Rattle.card_types.specs.Slots.{held}
+use Rattle.card_types.specs.Represents.{Represents, counter_of, domain_aid, object_of, held}
 use Rattle.card_types.specs.Well.{IsObject, IsWellCounter, IsWellObject, Well}
 use Rattle.card_types.specs.declared.tables.Entry.{Entry}
 use Rattle.card_types.specs.declared.tables.KeyRec.{KeyRec}

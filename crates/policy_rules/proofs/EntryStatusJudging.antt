@@ -4,12 +4,11 @@ use Rattle.std.specs.Prelude.{IfNone, IfSome, MatchOption}
 use Rattle.std.specs.Option.{option_map}
 use Rattle.std.proofs.lemmas.Bool.{eq-eqb, eqb-true}
 use Rattle.card_types.proofs.SameAid.{same_aid_decides}
-use Rattle.card_types.specs.AidOrder.{same_aid}
+use Rattle.card_types.specs.Aid.{same_aid, IsAid}
 use Rattle.card_types.specs.Found.{aid_of}
 use Rattle.card_types.specs.Registry as registry
 use Rattle.card_types.specs.Registry.{entry_named, is_domain}
-use Rattle.card_types.specs.Represents.{entry_of}
-use Rattle.card_types.specs.Slots.{held}
+use Rattle.card_types.specs.Represents.{entry_of, held}
 use Rattle.card_types.specs.Well.{IsDomainNamed}
 use Rattle.card_types.specs.declared.factory.TheConstants.{ISSUER}
 use Rattle.card_types.specs.declared.found.Found.TheVariants as found
@@ -28,9 +27,7 @@ use Rattle.policy_rules.specs.SetStatusRequests.{IsChangeFor, IsEntryStatusOf, I
 use Rattle.policy_rules.specs.declared.entry_status.EntryStatusRequest.{EntryStatusRequest}
 use Rattle.policy_rules.specs.declared.entry_status.StatusChange.TheVariants.{One, Tree}
 use Rattle.policy_slots.proofs.ThingsFound.{IsEntryAt, entry_at, named_as}
-use Rattle.policy_slots.specs.Acting.{ActsIn}
-use Rattle.policy_slots.specs.Acting.{TellsCard}
-use Rattle.card_types.specs.Aid.{IsAid}
+use Rattle.policy_slots.specs.StateShown.{ActsIn, TellsCard}
 use Rattle.policy_machine.proofs.EntryStatusLaws.{entry_status_judgeable}
 use Rattle.policy_machine.proofs.ManagedJudging.{two_pass, own_refuses, approval_decides}
 use Rattle.policy_machine.specs.ManagedForm.{OwnFirst, command_form}

@@ -3,10 +3,10 @@ use Rattle.std.proofs.Common.{◌≡◌, inl, inr, ℕ, List, ◌∷◌, Option,
 use Rattle.std.specs.Prelude.{MatchOption}
 use Rattle.bertlv.specs.Spelling.{Element}
 use Rattle.policy_machine.specs.Admission.{Admitted}
-use Rattle.policy_machine.specs.FirstFailing.{IsFirst}
+use Rattle.policy_machine.specs.Refusal.{IsFirst}
 use Rattle.policy_machine.specs.GetStatus.{BeginsAbove, GetStatusFails, IsListed, IsPlaceOf, IsSearch, ListingFails, get_status_rules, place_before, tag_list}
 use Rattle.policy_machine.specs.Management.{ManagementFails, acting}
-use Rattle.policy_machine.specs.Volatile.{Place}
+use Rattle.policy_machine.specs.State.{Place}
 use Rattle.policy_machine.specs.declared.get_status.RuleGS.TheVariants.{GS1, GS2}
 use Rattle.policy_machine.specs.declared.management.RuleM.TheVariants.{M2}
 use Rattle.policy_machine.specs.declared.rule.Rule.TheVariants.{GS, M}

@@ -11,11 +11,10 @@ use Rattle.std.proofs.lemmas.List.Elements.{All-contains, All-contains_itself, A
 use Rattle.card_types.proofs.LeastOfList.{first_below, found_fits, names_sorted, others_sorted, sorted_by_name}
 use Rattle.card_types.proofs.Members.{contains_cases, contains_first, contains_later, contains_map, mapped}
 use Rattle.card_types.proofs.SameAid.{same_aid_decides}
-use Rattle.card_types.specs.AidOrder.{aid_order, same_aid}
-use Rattle.card_types.specs.Ascending.{IsAscending}
+use Rattle.card_types.specs.Aid.{aid_order, same_aid}
+use Rattle.card_types.specs.Registry.{IsAscending, Entry, Registry, domain_of, entry_named, is_domain}
 use Rattle.card_types.specs.Found.{IsAbove}
 use Rattle.card_types.specs.Hierarchy.{IsLine, IsPath}
-use Rattle.card_types.specs.Registry.{Entry, Registry, domain_of, entry_named, is_domain}
 use Rattle.card_types.specs.Well.{IsDomainNamed, IsWellEntry, IsWellFile, LeadsToRoot, Well}
 use Rattle.card_types.specs.declared.factory.TheConstants.{ISSUER}
 use Rattle.domain_tree.proofs.Paths.{root_alone}

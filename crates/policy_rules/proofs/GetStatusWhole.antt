@@ -9,8 +9,8 @@ use Rattle.std.proofs.lemmas.Cmp.{nat_list_cmp_total}
 use Rattle.card_types.proofs.LeastOfList.{first_below, names_sorted, others_sorted, sorted_by_name}
 use Rattle.card_types.proofs.Members.{contains_cases, contains_first, contains_later}
 use Rattle.card_types.proofs.NotAbove.{not_above_self}
-use Rattle.card_types.specs.AidOrder.{NotAbove, aid_order}
-use Rattle.card_types.specs.Ascending.{IsAscending}
+use Rattle.card_types.specs.Aid.{NotAbove, aid_order}
+use Rattle.card_types.specs.Registry.{IsAscending}
 use Rattle.card_types.specs.Found.{IsAbove}
 use Rattle.card_types.specs.Well.{Well}
 use Rattle.card_types.specs.declared.found.Found.{Found}

@@ -1,7 +1,7 @@
 -- The rules of PUT KEY after those of card content management, by slots and by names.
 use Rattle.std.proofs.Common.{◌≡◌, ◌≢◌, ℕ, true, false, List, [], ◌∷◌, Option, None, Some, Err, Ok, length, refl, ap, sym, subst, ◌∙◌, inl, inr, arith}
 use Rattle.std.specs.Prelude.{OnOk, Result, filter}
-use Rattle.card_types.specs.AidOrder.{same_aid}
+use Rattle.card_types.specs.Aid.{same_aid}
 use Rattle.card_types.specs.declared.tables.Tables.{Tables}
 use Rattle.key_rules.specs.PutFails as slots
 use Rattle.key_rules.specs.PutFails.{NoneHolds, PutFails}
@@ -9,8 +9,8 @@ use Rattle.key_rules.specs.Staying as slots_of
 use Rattle.key_rules.specs.declared.refusal.PutRefusal.{PutRefusal}
 use Rattle.key_rules.specs.declared.refusal.PutRefusal.TheVariants.{Unknown, Taken, Full}
 use Rattle.policy_machine.specs.Admission.{Admitted}
-use Rattle.policy_machine.specs.FirstFailing.{IsFirst}
-use Rattle.policy_machine.specs.KeyVersions.{has_key_version, keys_but}
+use Rattle.policy_machine.specs.Refusal.{IsFirst}
+use Rattle.policy_machine.specs.KeySets.{has_key_version, keys_but}
 use Rattle.policy_machine.specs.Management.{ManagementFails, acting}
 use Rattle.policy_machine.specs.PutKey.{SaysChecks, key_count, keys_left, own_keys_left, KeysAsked, PuttingKeyFails, managed_put_key}
 use Rattle.policy_machine.specs.PutKeyRules.{key_rules, version_rules}
@@ -27,7 +27,7 @@ use Rattle.policy_rules.specs.declared.request.Request.TheVariants.{PutKey}
 use Rattle.policy_slots.proofs.KeyCounts as by_slots
 use Rattle.policy_slots.proofs.KeysByName.{has_version_by_name}
 use Rattle.policy_slots.proofs.ManagementFirst.{behind_management}
-use Rattle.policy_slots.specs.Acting.{ActsIn}
+use Rattle.policy_slots.specs.StateShown.{ActsIn}
 
 module _ (page : ℕ → List ℕ) (tables : Tables) (domain : ℕ) (admitted : Admitted) (acts : ActsIn page tables domain admitted)
     (replaced version : ℕ) (keys : PutKeys) (request : IsRequestOf (PutKey replaced version keys) admitted.command) where

@@ -6,7 +6,7 @@ use Rattle.bertlv.specs.Spelling.{Element, AreElements}
 use Rattle.card_types.specs.declared.limits.TheConstants.{OBJECTS}
 use Rattle.policy_machine.specs.Admission.{Admitted}
 use Rattle.policy_machine.specs.Management.{acting, ManagementFails}
-use Rattle.policy_machine.specs.DataObjects.{is_object_of}
+use Rattle.policy_machine.specs.DataObjects.{is_object_of, new_tags}
 use Rattle.policy_machine.specs.StoreData.{objects_stored, HasObjects, StoreDataField, managed_store_data, StoringFails}
 use Rattle.policy_machine.specs.declared.rule.Rule.TheVariants.{SD}
 use Rattle.policy_machine.specs.declared.store_data.RuleSD.TheVariants.{SD1}
@@ -16,8 +16,7 @@ use Rattle.card_types.specs.Represents.{object_of, used}
 use Rattle.card_types.specs.declared.tables.Tables.{Tables}
 use Rattle.policy_machine.proofs.StoredCount.{stored_count}
 use Rattle.policy_slots.proofs.ObjectsNamed.{has_alike}
-use Rattle.policy_machine.specs.FirstFailing.{IsFirst}
-use Rattle.policy_machine.specs.ObjectsFound.{new_tags}
+use Rattle.policy_machine.specs.Refusal.{IsFirst}
 use Rattle.policy_slots.specs.ObjectsHeld.{has_object_in}
 use Rattle.policy_machine.specs.declared.management.RuleM.TheVariants.{M1, M2}
 use Rattle.policy_machine.specs.Commands.{TakesCommand, Judges}
@@ -27,7 +26,7 @@ use Rattle.policy_machine.specs.CommandForm.{FailsFirst}
 use Rattle.policy_machine.proofs.ManagedJudging.{two_pass, own_refuses, approval_decides}
 use Rattle.policy_machine.specs.ManagedForm.{command_form}
 use Rattle.policy_machine.proofs.StoreDataLaws.{store_judgeable}
-use Rattle.policy_slots.specs.Acting.{ActsIn}
+use Rattle.policy_slots.specs.StateShown.{ActsIn}
 
 module _ (page : ℕ → List ℕ) (tables : Tables) (domain : ℕ) (admitted : Admitted) (acts : ActsIn page tables domain admitted) where
   -- the objects that there would be are counted by slots

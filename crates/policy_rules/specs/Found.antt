@@ -1,7 +1,7 @@
 -- For the code inside. What GET DATA finds in the slots of a card.
 use Rattle.std.specs.Prelude.{◌≡◌, ◌≢◌, ℕ, ◌<◌, None}
 use Rattle.bertlv.specs.Tag.{IsTag}
-use Rattle.card_types.specs.Least.{IsLeast}
+use Rattle.card_types.specs.Search.{IsLeast}
 use Rattle.card_types.specs.Registry.{Registry}
 use Rattle.card_types.specs.Represents.{domain_aid}
 use Rattle.card_types.specs.declared.tables.Tables.{Tables}

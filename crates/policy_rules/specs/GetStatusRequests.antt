@@ -3,9 +3,8 @@ use Rattle.std.specs.Prelude.{◌≡◌, ◌≢◌, ◌⊎◌, ℕ, List, Option
 use Rattle.std.specs.Option.{option_map}
 use Rattle.std.specs.Ordering.{is_lt}
 use Rattle.apdu_core.specs.Apdu.{Apdu}
-use Rattle.card_types.specs.AidOrder.{NotAbove, aid_order}
-use Rattle.card_types.specs.Represents.{entry_of, file_of}
-use Rattle.card_types.specs.Slots.{held}
+use Rattle.card_types.specs.Aid.{NotAbove, aid_order}
+use Rattle.card_types.specs.Represents.{entry_of, file_of, held}
 use Rattle.card_types.specs.declared.factory.TheConstants.{ISSUER}
 use Rattle.card_types.specs.declared.found.Found.{Found}
 use Rattle.card_types.specs.declared.found.Found.TheVariants as found
@@ -16,7 +15,7 @@ use Rattle.policy_machine.specs.Admission.{Admitted}
 use Rattle.policy_machine.specs.GetStatus.{AFile, AnEntry, BeginsAbove, IsListed, IsSearch, StatusParameters, Thing, aid_in, place_before}
 use Rattle.policy_machine.specs.Management.{acting}
 use Rattle.policy_rules.specs.declared.get_status.ListRequest.{ListRequest}
-use Rattle.policy_slots.specs.KeptPlaces.{place_of}
+use Rattle.policy_slots.specs.StateShown.{place_of}
 use Rattle.policy_slots.specs.declared.live.Place.{Place}
 
 -- The request is that of a command with this P1, P2 and data field.

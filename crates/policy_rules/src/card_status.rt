@@ -8,7 +8,7 @@ ghost use Rattle.policy_machine.specs.Malformed.{IsRefusedBy};
 ghost use Rattle.policy_machine.specs.CommandForm.{FailsFirst};
 ghost use Rattle.policy_machine.specs.ManagedForm.{command_form};
 ghost use Rattle.policy_rules.specs.SetStatusRequests.{IsCardStatusOf, IsStepBy, MayStep};
-ghost use Rattle.policy_slots.specs.Acting.{ActsIn};
+ghost use Rattle.policy_slots.specs.StateShown.{ActsIn};
 
 use card_types::{CardLife, Privileges, Tables};
 use policy_machine::{Rule, RulePS, RuleSC};

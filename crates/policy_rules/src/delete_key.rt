@@ -2,8 +2,7 @@
 
 ghost use Rattle.std.specs.Prelude.{◌≡◌, ◌↔◌, ℕ, List, None, Some, IfErr, IfNone, IfOk, IfSome, IsTrue, OnOk};
 ghost use Rattle.std.specs.List.{list_any};
-ghost use Rattle.card_types.specs.InOrder.{IsInOrder};
-ghost use Rattle.card_types.specs.Represents.{domain_slot};
+ghost use Rattle.card_types.specs.Represents.{IsInOrder, domain_slot};
 ghost use Rattle.policy_machine.specs.Admission.{Admitted};
 ghost use Rattle.policy_machine.specs.DeleteKey.{Chooses, DeleteParameters, IsLastSet, NamesPart, managed_delete_key, AsksToDeleteKey, KeyChosen};
 ghost use Rattle.policy_machine.specs.Commands.{Judges};
@@ -11,7 +10,7 @@ ghost use Rattle.policy_machine.specs.Malformed.{IsRefusedBy};
 ghost use Rattle.policy_machine.specs.ManagedForm.{command_form};
 ghost use Rattle.policy_rules.specs.Requests.{IsRequestOf};
 ghost use Rattle.policy_rules.specs.declared.request.Request.TheVariants.{DeleteKey};
-ghost use Rattle.policy_slots.specs.Acting.{ActsIn};
+ghost use Rattle.policy_slots.specs.StateShown.{ActsIn};
 ghost use Rattle.policy_slots.specs.KeyOrder.{holds_counter_but as holds_counter_but_by};
 
 use card_types::{Entry, KeyRec, Tables, in_slot};

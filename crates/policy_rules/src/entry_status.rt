@@ -2,10 +2,10 @@
 
 ghost use Rattle.std.specs.Prelude.{◌≡◌, ◌↔◌, ◌⊎◌, ℕ, List, None, Some, false, IfErr, IfNone, IfOk, IfSome, IsTrue, OnOk};
 ghost use Rattle.card_types.specs.Found.{aid_of};
-ghost use Rattle.card_types.specs.InOrder.{IsInOrder};
+ghost use Rattle.card_types.specs.Represents.{IsInOrder};
 ghost use Rattle.card_types.specs.Privileges.{has, security_domain};
 ghost use Rattle.card_types.specs.declared.found.Found.TheVariants.{Entry as At};
-ghost use Rattle.domain_tree.specs.AboveLaws.{IsAboveIn};
+ghost use Rattle.domain_tree.specs.Above.{IsAboveIn};
 ghost use Rattle.policy_machine.specs.Admission.{Admitted};
 ghost use Rattle.policy_machine.specs.Delegation.{Holds};
 ghost use Rattle.policy_machine.specs.EntryStatus.{EntryStatusParameters, PersonalizesItself, SettingStatusFails, managed_entry_status, global_lock};
@@ -15,7 +15,7 @@ ghost use Rattle.policy_machine.specs.declared.entry_status.RuleSS.TheVariants.{
 ghost use Rattle.policy_machine.specs.CommandForm.{FailsFirst};
 ghost use Rattle.policy_machine.specs.ManagedForm.{OwnFirst, command_form};
 ghost use Rattle.policy_rules.specs.SetStatusRequests.{IsChangeFor, IsEntryStatusOf, IsEntryStatusRequest, IsOther, IsSlotStep, MaySet, slot_of};
-ghost use Rattle.policy_slots.specs.Acting.{ActsIn};
+ghost use Rattle.policy_slots.specs.StateShown.{ActsIn};
 
 use bitflags::Flags;
 use card_types::{Aid, Entry, Life, LifeMark, Privileges, Tables, in_slot};

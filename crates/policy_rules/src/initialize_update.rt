@@ -1,24 +1,22 @@
 //! INITIALIZE UPDATE (GlobalPlatform Amendment D, 7.1.1).
 
 ghost use Rattle.std.specs.Prelude.{◌≡◌, ◌≤◌, ◌&&◌, not, ℕ, List, None, Some, IfOk, IfErr, OnOk};
-ghost use Rattle.card_types.specs.AidOrder.{same_aid};
+ghost use Rattle.card_types.specs.Aid.{same_aid};
 ghost use Rattle.card_types.specs.Counters.{HasNextCounter};
-ghost use Rattle.card_types.specs.InOrder.{IsInOrder};
-ghost use Rattle.card_types.specs.NamedKeys.{AreKeysOf, HaveKeyLength};
+ghost use Rattle.card_types.specs.Represents.{IsInOrder, Represents, domain_aid, held};
+ghost use Rattle.card_types.specs.KeySets.{AreKeysOf, HaveKeyLength};
 ghost use Rattle.card_types.specs.Registry.{Registry};
-ghost use Rattle.card_types.specs.Represents.{Represents, domain_aid};
-ghost use Rattle.card_types.specs.Slots.{held};
 ghost use Rattle.card_types.specs.Well.{Well};
 ghost use Rattle.card_types.specs.declared.factory.TheConstants.{ISSUER};
 ghost use Rattle.card_types.specs.declared.tables.Entry.{Entry};
 ghost use Rattle.policy_machine.specs.Admission.{Admitted};
-ghost use Rattle.policy_machine.specs.FirstFailing.{IsFirst};
+ghost use Rattle.policy_machine.specs.Refusal.{IsFirst};
 ghost use Rattle.policy_machine.specs.InitializeUpdate.{InitializeUpdateFails, offer_rules};
 ghost use Rattle.policy_slots.specs.KeyOrder.{UsesSetOfKey};
 ghost use Rattle.policy_machine.specs.Select.{is_card_locked};
 ghost use Rattle.policy_machine.specs.declared.instruction.TheConstants.{INITIALIZE_UPDATE};
 ghost use Rattle.policy_rules.specs.Requests.{Parses};
-ghost use Rattle.policy_slots.specs.Acting.{ActsIn};
+ghost use Rattle.policy_slots.specs.StateShown.{ActsIn};
 
 use crate::request::Request;
 use card_types::{Aid, COUNTER_LIMIT, CardLife, KeySet, Tables, in_slot, set_with};

@@ -11,7 +11,7 @@ use Rattle.policy_machine.specs.Admission.{Admitted}
 use Rattle.policy_machine.specs.Management.{ManagementFails, acting}
 use Rattle.policy_machine.specs.Select.{is_card_locked}
 use Rattle.policy_machine.specs.declared.management.RuleM.TheVariants.{M1, M2, M3}
-use Rattle.policy_slots.specs.Acting.{ActsIn}
+use Rattle.policy_slots.specs.StateShown.{ActsIn}
 
 module _ (page : ℕ → List ℕ) (tables : Tables) (domain : ℕ) (admitted : Admitted) (acts : ActsIn page tables domain admitted) where
   pub acting_aid : acting admitted ≡ acts.entry.aid

@@ -9,8 +9,7 @@ use Rattle.card_types.specs.Found.{aid_of}
 use Rattle.card_types.specs.Privileges.{bits_of, security_domain}
 use Rattle.card_types.specs.Registry as registry
 use Rattle.card_types.specs.Registry.{domain_of, entry_named, file_named, is_domain}
-use Rattle.card_types.specs.Represents.{Represents, domain_aid, domain_slot, entry_of, file_of}
-use Rattle.card_types.specs.Slots.{held}
+use Rattle.card_types.specs.Represents.{Represents, domain_aid, domain_slot, entry_of, file_of, held}
 use Rattle.card_types.specs.Well.{IsDomainNamed, Well}
 use Rattle.card_types.specs.declared.found.Found.TheVariants as found
 use Rattle.card_types.specs.declared.privileges.Privileges.{Privileges}
@@ -18,8 +17,7 @@ use Rattle.card_types.specs.declared.tables.Entry.{Entry}
 use Rattle.card_types.specs.declared.tables.LoadFile.{LoadFile}
 use Rattle.card_types.specs.declared.tables.Tables.{Tables}
 use Rattle.domain_tree.proofs.AboveNamed.{slot_above}
-use Rattle.domain_tree.specs.Above.{Above}
-use Rattle.domain_tree.specs.AboveLaws.{IsAboveIn}
+use Rattle.domain_tree.specs.Above.{Above, IsAboveIn}
 use Rattle.domain_tree.specs.Holders.{entry_has}
 use Rattle.policy_machine.specs.Charge.{IsAtOrAbove, IsFileInCharge, IsInCharge, is_privileged}
 use Rattle.policy_machine.specs.Extradition.{domain_of_thing, entry_domain, file_domain}

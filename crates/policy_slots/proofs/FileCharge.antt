@@ -5,12 +5,11 @@ use Rattle.card_types.proofs.Domains.{file_domain_is_used, same_domain}
 use Rattle.card_types.proofs.FoundNames.{found_entry_named}
 use Rattle.card_types.proofs.LeastOfList.{found_fits}
 use Rattle.card_types.proofs.SameAid.{same_aid_decides}
-use Rattle.card_types.specs.AidOrder.{same_aid}
+use Rattle.card_types.specs.Aid.{same_aid}
 use Rattle.card_types.specs.Found.{aid_of}
 use Rattle.card_types.specs.Registry as registry
 use Rattle.card_types.specs.Registry.{entry_named, file_named}
-use Rattle.card_types.specs.Represents.{Represents, domain_aid, domain_slot, file_of}
-use Rattle.card_types.specs.Slots.{held}
+use Rattle.card_types.specs.Represents.{Represents, domain_aid, domain_slot, file_of, held}
 use Rattle.card_types.specs.Well.{IsWellFile, Well}
 use Rattle.card_types.specs.declared.found.Found.TheVariants as found
 use Rattle.card_types.specs.declared.tables.LoadFile.{LoadFile}
@@ -20,7 +19,7 @@ use Rattle.domain_tree.specs.Above.{Above}
 use Rattle.policy_machine.specs.Admission.{Admitted}
 use Rattle.policy_machine.specs.Charge.{IsFileInCharge}
 use Rattle.policy_machine.specs.Management.{acting}
-use Rattle.policy_slots.specs.Acting.{ActsIn}
+use Rattle.policy_slots.specs.StateShown.{ActsIn}
 
 -- an entry's AID is that of no Executable Load File
 pub apart_from_entry : (said : registry.Registry) → Well said → (aid : List ℕ) (entry : registry.Entry) → entry_named said aid ≡ Some entry → file_named said aid ≡ None

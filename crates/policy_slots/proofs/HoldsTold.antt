@@ -4,7 +4,7 @@ use Rattle.std.specs.Prelude.{IsTrue, not}
 use Rattle.std.proofs.lemmas.Bool.{false_from_ne_true, not-true, not_from_false}
 use Rattle.card_types.specs.Privileges.{bits_of}
 use Rattle.card_types.specs.Registry.{entry_named}
-use Rattle.card_types.specs.Slots.{held}
+use Rattle.card_types.specs.Represents.{held}
 use Rattle.card_types.specs.declared.privileges.Privileges.{Privileges}
 use Rattle.card_types.specs.declared.tables.Tables.{Tables}
 use Rattle.domain_tree.specs.Holders.{entry_has}
@@ -13,7 +13,7 @@ use Rattle.policy_machine.specs.Charge.{is_privileged}
 use Rattle.policy_machine.specs.Delegation.{Holds}
 use Rattle.policy_machine.specs.Management.{acting}
 use Rattle.policy_slots.proofs.NearestHolder.{privilege_named}
-use Rattle.policy_slots.specs.Acting.{ActsIn}
+use Rattle.policy_slots.specs.StateShown.{ActsIn}
 
 -- what a negated test tells
 pub not_told : {P : Type 0} (is : Bool) → IsTrue is ↔ P → IsTrue (not is) ↔ (P → ⊥)

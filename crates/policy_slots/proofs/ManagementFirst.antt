@@ -2,7 +2,7 @@
 use Rattle.std.proofs.Common.{◌≡◌, ◌⊎◌, List, ◌∷◌, Err, Ok, Option, Some, ap, subst, sym, inl, inr}
 use Rattle.std.specs.Prelude.{IfErr, Result}
 use Rattle.std.specs.Result.{IsErrAnd}
-use Rattle.policy_machine.specs.FirstFailing.{IsFirst}
+use Rattle.policy_machine.specs.Refusal.{IsFirst}
 use Rattle.policy_machine.specs.declared.management.RuleM.TheVariants.{M1, M2, M3}
 use Rattle.policy_machine.specs.declared.rule.Rule.{Rule}
 use Rattle.policy_machine.specs.declared.rule.Rule.TheVariants.{M}

@@ -11,8 +11,7 @@ use Rattle.card_types.specs.KeySets.{HasKey, IsKeyOf, is_key}
 use Rattle.card_types.specs.Privileges.{bits_of}
 use Rattle.card_types.specs.Registry as registry
 use Rattle.card_types.specs.Registry.{domain_of, entry_named, key_named}
-use Rattle.card_types.specs.Represents.{Represents, domain_aid, domain_slot, entry_of, key_of}
-use Rattle.card_types.specs.Slots.{held}
+use Rattle.card_types.specs.Represents.{Represents, domain_aid, domain_slot, entry_of, key_of, held}
 use Rattle.card_types.specs.Well.{Well}
 use Rattle.card_types.specs.declared.privileges.Privileges.{Privileges}
 use Rattle.card_types.specs.declared.tables.Entry.{Entry}

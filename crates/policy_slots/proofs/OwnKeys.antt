@@ -10,12 +10,11 @@ use Rattle.card_types.proofs.Domains.{key_owner_is_used, same_domain}
 use Rattle.card_types.proofs.FilterByFinds.{filter_by_finds}
 use Rattle.card_types.proofs.KeyNames.{key_order_total, least_counter, least_key, no_counter, no_key}
 use Rattle.card_types.proofs.SameAid.{aid_equal_itself, aid_same_itself, same_aid_decides}
-use Rattle.card_types.specs.AidOrder.{aid_order, same_aid}
-use Rattle.card_types.specs.Ascending.{key_order}
-use Rattle.card_types.specs.Least.{IsLeast, NoneFits}
+use Rattle.card_types.specs.Aid.{aid_order, same_aid}
+use Rattle.card_types.specs.Registry.{key_order}
+use Rattle.card_types.specs.Search.{IsLeast, NoneFits}
 use Rattle.card_types.specs.Registry as registry
-use Rattle.card_types.specs.Represents.{Represents, counter_of, domain_aid, keeps_counter, key_of}
-use Rattle.card_types.specs.Slots.{held}
+use Rattle.card_types.specs.Represents.{Represents, counter_of, domain_aid, keeps_counter, key_of, held}
 use Rattle.card_types.specs.Well.{Well}
 use Rattle.card_types.specs.declared.tables.Entry.{Entry}
 use Rattle.card_types.specs.declared.tables.KeyRec.{KeyRec}

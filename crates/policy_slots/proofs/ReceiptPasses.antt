@@ -2,8 +2,7 @@
 use Rattle.std.proofs.Common.{◌≡◌, ◌≢◌, List, Option, None, Some, ℕ, refl, ap, subst, ◌∙◌}
 use Rattle.std.specs.Prelude.{MatchOption}
 use Rattle.card_types.specs.Registry.{Entry, entry_named}
-use Rattle.card_types.specs.Represents.{domain_aid, key_of}
-use Rattle.card_types.specs.Slots.{held}
+use Rattle.card_types.specs.Represents.{domain_aid, key_of, held}
 use Rattle.card_types.specs.declared.limits.TheConstants.{RECEIPT_LIMIT}
 use Rattle.card_types.specs.declared.tables.Entry.{Entry as Slot}
 use Rattle.card_types.specs.declared.tables.Tables.{Tables}
@@ -13,7 +12,7 @@ use Rattle.policy_machine.specs.Management.{acting}
 use Rattle.policy_machine.specs.declared.delegation.RuleRC.TheVariants.{RC1}
 use Rattle.policy_machine.proofs.Approved.{one_holder}
 use Rattle.policy_slots.proofs.NearestHolder.{slot_named}
-use Rattle.policy_slots.specs.Acting.{ActsIn}
+use Rattle.policy_slots.specs.StateShown.{ActsIn}
 use Rattle.policy_slots.specs.HoldersFound.{FindsReceipter}
 
 -- a receipter that may make another receipt, or none, is no reason to refuse

@@ -7,10 +7,9 @@ use Rattle.policy_machine.proofs.FirstLike.{first_like, first_of_group, none_fir
 use Rattle.policy_machine.proofs.ManagedJudging.{two_pass}
 use Rattle.policy_machine.specs.Admission.{Admitted}
 use Rattle.policy_machine.specs.Delegation.{Approval, ReceiptFails, TokenFails, token_rules}
-use Rattle.policy_machine.specs.FirstFailing.{IsFirst}
-use Rattle.policy_machine.specs.ManagedForm.{AskedFails, JudgedForm}
+use Rattle.policy_machine.specs.Refusal.{IsFirst}
+use Rattle.policy_machine.specs.ManagedForm.{AskedFails, JudgedForm, OfEach}
 use Rattle.policy_machine.specs.Management.{ManagementFails}
-use Rattle.policy_machine.specs.JudgedForms.{OfEach}
 use Rattle.policy_machine.specs.declared.delegation.RuleRC.{RuleRC}
 use Rattle.policy_machine.specs.declared.delegation.RuleRC.TheVariants.{RC1}
 use Rattle.policy_machine.specs.declared.delegation.RuleTK.{RuleTK}

@@ -2,17 +2,14 @@
 use Rattle.std.proofs.Common.{◌≡◌, ℕ, ◌<◌, List, Option, None, Some, sym, ap, subst, ◌∙◌}
 use Rattle.std.specs.Prelude.{slice_index_or}
 use Rattle.card_types.proofs.Domains.{domain_aid_is}
-use Rattle.card_types.specs.Represents.{domain_aid}
-use Rattle.card_types.specs.Slots.{held}
+use Rattle.card_types.specs.Represents.{domain_aid, held}
 use Rattle.card_types.specs.declared.tables.Entry.{Entry}
 use Rattle.card_types.specs.declared.tables.Tables.{Tables}
 use Rattle.policy_machine.specs.Admission.{Admitted}
 use Rattle.policy_machine.specs.Sound.{IsSound}
-use Rattle.policy_machine.specs.State.{State}
-use Rattle.policy_machine.specs.Volatile.{Channel, channel_at, selected_of, selected_on}
+use Rattle.policy_machine.specs.State.{State, Channel, channel_at, selected_of, selected_on}
 use Rattle.policy_machine.specs.declared.channels.TheConstants.{CHANNELS}
-use Rattle.policy_slots.specs.Acting.{ActsIn}
-use Rattle.policy_slots.specs.StateShown.{IsSelectedIn, RepresentsState}
+use Rattle.policy_slots.specs.StateShown.{ActsIn, IsSelectedIn, RepresentsState}
 use Rattle.policy_slots.specs.declared.live.Live.{Live}
 
 by_slot : (entries : List (Option Entry)) (slot : ℕ) (channel : Option Channel) → IsSelectedIn entries (Some slot) channel

@@ -10,12 +10,11 @@ use Rattle.card_types.proofs.KeyNames.{counters_shown}
 use Rattle.card_types.proofs.LeastOfList.{none_fits}
 use Rattle.card_types.proofs.Lines.{one_line}
 use Rattle.card_types.proofs.SameAid.{aid_same_itself}
-use Rattle.card_types.specs.AidOrder.{same_aid}
+use Rattle.card_types.specs.Aid.{same_aid}
 use Rattle.card_types.specs.Hierarchy.{IsLine}
-use Rattle.card_types.specs.Least.{IsLeast, NoneFits}
+use Rattle.card_types.specs.Search.{IsLeast, NoneFits}
 use Rattle.card_types.specs.Registry as registry
-use Rattle.card_types.specs.Represents.{Represents, counter_of, domain_aid, domain_slot, keeps_counter}
-use Rattle.card_types.specs.Slots.{held}
+use Rattle.card_types.specs.Represents.{Represents, counter_of, domain_aid, domain_slot, keeps_counter, held}
 use Rattle.card_types.specs.Well.{Well}
 use Rattle.card_types.specs.declared.tables.Entry.{Entry}
 use Rattle.card_types.specs.declared.tables.KeyRec.{KeyRec}

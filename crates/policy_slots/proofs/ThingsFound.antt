@@ -8,19 +8,17 @@ use Rattle.card_types.proofs.Next.{held_from_name}
 use Rattle.card_types.specs.Found.{aid_of}
 use Rattle.card_types.specs.Registry as registry
 use Rattle.card_types.specs.Registry.{entry_named}
-use Rattle.card_types.specs.Represents.{Represents, domain_aid, domain_slot, entry_of}
-use Rattle.card_types.specs.Slots.{held}
+use Rattle.card_types.specs.Represents.{Represents, domain_aid, domain_slot, entry_of, held}
 use Rattle.card_types.specs.Well.{Well}
 use Rattle.card_types.specs.declared.found.Found.TheVariants as found
 use Rattle.card_types.specs.declared.tables.Entry.{Entry}
 use Rattle.card_types.specs.declared.tables.Tables.{Tables}
 use Rattle.domain_tree.proofs.AboveNamed.{above_in_slots, above_named}
-use Rattle.domain_tree.specs.Above.{Above}
-use Rattle.domain_tree.specs.AboveLaws.{IsAboveIn}
+use Rattle.domain_tree.specs.Above.{Above, IsAboveIn}
 use Rattle.policy_machine.specs.Admission.{Admitted}
 use Rattle.policy_machine.specs.Management.{acting}
 use Rattle.policy_slots.proofs.ActingDomain.{acting_aid}
-use Rattle.policy_slots.specs.Acting.{ActsIn}
+use Rattle.policy_slots.specs.StateShown.{ActsIn}
 
 -- the entry with this AID is in the slot
 pub record IsEntryAt (tables : Tables) (said : registry.Registry) (slot : ℕ) (aid : List ℕ) : Type 0 where

@@ -2,12 +2,11 @@
 use Rattle.std.specs.Prelude.{◌≡◌, ◌≢◌, ◌⊎◌, ℕ, Bool, false, Option, None, Some, MatchOption, ◌&&◌}
 use Rattle.std.specs.List.{list_any}
 use Rattle.card_types.specs.KeySets.{HasKey, is_key}
-use Rattle.card_types.specs.Slots.{held}
+use Rattle.card_types.specs.Represents.{held, domain_aid, key_of}
 use Rattle.card_types.specs.declared.limits.TheConstants.{RECEIPT_LIMIT}
 use Rattle.card_types.specs.declared.privileges.Privileges.{Privileges}
 use Rattle.card_types.specs.declared.tables.KeyRec.{KeyRec}
 use Rattle.card_types.specs.declared.tables.Tables.{Tables}
-use Rattle.card_types.specs.Represents.{domain_aid, key_of}
 use Rattle.domain_tree.specs.Holders.{entry_has}
 use Rattle.policy_machine.specs.Admission.{Admitted}
 use Rattle.policy_machine.specs.Delegation.{Approval, IsReceipter, NoReceipter}

@@ -1,8 +1,6 @@
-pub mod Acting
+pub mod StateShown
 pub mod HoldersFound
-pub mod KeptPlaces
 pub mod KeyOrder
 pub mod LiveEnds
 pub mod ObjectsHeld
 pub mod RequestJudged
-pub mod StateShown

@@ -2,19 +2,17 @@
 
 ghost use Rattle.std.specs.Prelude.{◌≡◌, ◌↔◌, ◌⊎◌, ℕ, List, None, Some, IfNone, IfSome, IsSome, IsTrue};
 ghost use Rattle.card_types.specs.Found.{aid_of};
-ghost use Rattle.card_types.specs.InOrder.{IsInOrder};
+ghost use Rattle.card_types.specs.Represents.{IsInOrder, Represents, domain_aid, file_of, held};
 ghost use Rattle.card_types.specs.Registry.{Registry, entry_named};
-ghost use Rattle.card_types.specs.Represents.{Represents, domain_aid, file_of};
-ghost use Rattle.card_types.specs.Slots.{held};
 ghost use Rattle.card_types.specs.Well.{IsDomainNamed, Well};
 ghost use Rattle.card_types.specs.declared.found.Found.TheVariants.{Entry};
 ghost use Rattle.card_types.specs.declared.tables.LoadFile.{LoadFile};
-ghost use Rattle.domain_tree.specs.AboveLaws.{IsAboveIn};
+ghost use Rattle.domain_tree.specs.Above.{IsAboveIn};
 ghost use Rattle.policy_machine.specs.Admission.{Admitted};
 ghost use Rattle.policy_machine.specs.Charge.{IsAtOrAbove, IsFileInCharge, IsInCharge};
 ghost use Rattle.policy_machine.specs.Extradition.{domain_of_thing};
 ghost use Rattle.policy_machine.specs.Management.{acting};
-ghost use Rattle.policy_slots.specs.Acting.{ActsIn};
+ghost use Rattle.policy_slots.specs.StateShown.{ActsIn};
 
 use crate::delegation::holds;
 use card_types::{Aid, Found, Privileges, Tables, find, in_slot};

@@ -3,14 +3,13 @@
 
 ghost use Rattle.std.specs.Prelude.{◌≡◌, ◌↔◌, ◌≤◌, ℕ, Bool, List, None, Some, true, IfErr, IfOk, IfSome, IsTrue, OnOk, length};
 ghost use Rattle.apdu_core.specs.Apdu.{Apdu};
-ghost use Rattle.card_types.specs.InOrder.{IsInOrder};
+ghost use Rattle.card_types.specs.Represents.{IsInOrder};
 ghost use Rattle.card_types.specs.Privileges.{delegated_management};
 ghost use Rattle.policy_machine.specs.Admission.{Admitted};
 ghost use Rattle.policy_machine.specs.Delegation.{Holds};
-ghost use Rattle.policy_machine.specs.FirstFailing.{IsFirst};
-ghost use Rattle.policy_machine.specs.ManagedForm.{AskedFails, JudgedFirst, JudgedForm, OwnFirst};
-ghost use Rattle.policy_machine.specs.JudgedForms.{IsJudgeable};
-ghost use Rattle.policy_slots.specs.Acting.{ForActing};
+ghost use Rattle.policy_machine.specs.Refusal.{IsFirst};
+ghost use Rattle.policy_machine.specs.ManagedForm.{AskedFails, JudgedFirst, JudgedForm, OwnFirst, IsJudgeable};
+ghost use Rattle.policy_slots.specs.StateShown.{ForActing};
 ghost use Rattle.policy_slots.specs.HoldersFound.{FindsConfirmer, MayReceipt};
 ghost use Rattle.policy_slots.specs.RequestJudged.{IsBroughtFor, IsTokenForm, OwnRefuses};
 

@@ -1,10 +1,8 @@
 //! Which key sets a session uses.
 
 ghost use Rattle.std.specs.Prelude.{◌≡◌, ℕ, List, Some, true, IfSome, IfNone};
-ghost use Rattle.card_types.specs.InOrder.{IsInOrder};
+ghost use Rattle.card_types.specs.Represents.{IsInOrder, Represents, domain_aid, keeps_counter as keeps_counter_by, held};
 ghost use Rattle.card_types.specs.Registry.{Registry};
-ghost use Rattle.card_types.specs.Represents.{Represents, domain_aid, keeps_counter as keeps_counter_by};
-ghost use Rattle.card_types.specs.Slots.{held};
 ghost use Rattle.card_types.specs.Well.{Well};
 ghost use Rattle.card_types.specs.declared.tables.Entry.{Entry};
 ghost use Rattle.policy_machine.specs.KeySets.{NoSetToUse, OwnsSets};

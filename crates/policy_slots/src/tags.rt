@@ -2,7 +2,7 @@
 
 ghost use Rattle.std.specs.Prelude.{◌≡◌, ℕ, List};
 ghost use Rattle.bertlv.specs.Spelling.{AreElements, Element};
-ghost use Rattle.policy_machine.specs.ObjectsFound.{has_tag_in};
+ghost use Rattle.policy_machine.specs.DataObjects.{has_tag_in};
 
 use bertlv::read;
 

@@ -19,13 +19,11 @@ use Rattle.card_types.proofs.KeyNames.{counter_order_total, key_order_total}
 use Rattle.card_types.proofs.LeastOfList.{sorted_by_name}
 use Rattle.card_types.proofs.ObjectNames.{object_order_total}
 use Rattle.card_types.proofs.Shows.{shows_used}
-use Rattle.card_types.specs.AidOrder.{aid_order}
-use Rattle.card_types.specs.Ascending.{counter_order, key_order, object_order}
-use Rattle.card_types.specs.Layout.{HasIssuer}
+use Rattle.card_types.specs.Aid.{aid_order}
+use Rattle.card_types.specs.Registry.{counter_order, key_order, object_order}
+use Rattle.card_types.specs.Represents.{HasIssuer, Represents, counter_of, domain_aid, entry_of, file_aid, file_of, keeps_counter, key_of, object_of, used, held}
 use Rattle.card_types.specs.Privileges.{bits_of, named_bits}
 use Rattle.card_types.specs.Registry as registry
-use Rattle.card_types.specs.Represents.{Represents, counter_of, domain_aid, entry_of, file_aid, file_of, keeps_counter, key_of, object_of, used}
-use Rattle.card_types.specs.Slots.{held}
 use Rattle.card_types.specs.Well.{IsWellEntry}
 use Rattle.card_types.specs.declared.factory.TheConstants.{FACTORY_FILE}
 use Rattle.card_types.specs.declared.limits.TheConstants.{KEYS}

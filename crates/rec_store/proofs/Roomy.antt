@@ -3,8 +3,7 @@ use Rattle.std.proofs.Common.{◌≡◌, ℕ, zero, suc, ◌<◌, List, [], ◌�
 use Rattle.std.specs.Prelude.{All, IfSome, slice_set}
 use Rattle.std.proofs.lemmas.List.Elements.{All-contains, All-nil, All-cons, All-head, All-tail}
 use Rattle.card_types.proofs.Shows.{used_from_held}
-use Rattle.card_types.specs.Represents.{used}
-use Rattle.card_types.specs.Slots.{held}
+use Rattle.card_types.specs.Represents.{used, held}
 
 module _ {T : Type 0} (P : T → Type 0) where
   pub of_slot : (slots : List (Option T)) (slot : ℕ) → All P (used slots) → IfSome (held slots slot) P

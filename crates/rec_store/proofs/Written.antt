@@ -1,6 +1,6 @@
 -- Store pages that are written one after the other.
 use Rattle.std.proofs.Common.{◌≡◌, ℕ, ◌+◌, ◌*◌, ◌/◌, List, Option, Some, slice_get, ap, sym, subst, ◌∙◌, arith}
-use Rattle.card_types.specs.Slots.{held}
+use Rattle.card_types.specs.Represents.{held}
 use Rattle.flash_core.specs.Device.{SameBut}
 use Rattle.flash_core.specs.declared.page.Page.{Page}
 use Rattle.page_journal.specs.Journal.{bytes_of}

@@ -1,7 +1,6 @@
 -- For the code inside. Things in the first slots of tables.
 use Rattle.std.specs.Prelude.{◌≡◌, ℕ, ◌≤◌, List, Option, length}
-use Rattle.card_types.specs.Layout.{HasSlots}
-use Rattle.card_types.specs.Slots.{held}
+use Rattle.card_types.specs.Represents.{HasSlots, held}
 use Rattle.card_types.specs.declared.card_life.CardLife.{CardLife}
 use Rattle.card_types.specs.declared.limits.TheConstants.{ENTRIES, FILES, KEYS, OBJECTS}
 use Rattle.card_types.specs.declared.tables.Entry.{Entry}

@@ -1,9 +1,7 @@
 -- The tables that store pages hold.
 use Rattle.std.specs.Prelude.{ℕ, ◌+◌, ◌*◌, ◌/◌, ◌<◌, List, Option, All}
 use Rattle.card_check.specs.IsCard.{IsInLoadPages}
-use Rattle.card_types.specs.Layout.{HasSlots}
-use Rattle.card_types.specs.Represents.{used}
-use Rattle.card_types.specs.Slots.{held}
+use Rattle.card_types.specs.Represents.{HasSlots, used, held}
 use Rattle.card_types.specs.declared.limits.TheConstants.{ENTRIES, FILES, KEYS, OBJECTS}
 use Rattle.card_types.specs.declared.tables.Tables.{Tables}
 use Rattle.rec_store.specs.EntrySlot.{HoldsEntry}

@@ -2,9 +2,8 @@
 
 ghost use Rattle.std.specs.Prelude.{◌≡◌, ◌≤◌, ℕ, List, [], true, All, IfOk, IfErr, OnOk};
 ghost use Rattle.card_check.specs.IsCard.{HasPages, IsCard};
-ghost use Rattle.card_types.specs.InOrder.{IsInOrder};
+ghost use Rattle.card_types.specs.Represents.{IsInOrder, Represents, used, HasSlots};
 ghost use Rattle.card_types.specs.Registry.{Registry};
-ghost use Rattle.card_types.specs.Represents.{Represents, used};
 ghost use Rattle.card_types.specs.declared.tables.Tables.{Tables as TablesOf};
 ghost use Rattle.flash_core.specs.Device.{Only};
 ghost use Rattle.page_journal.specs.Journal.{HasValidJournal};
@@ -13,7 +12,6 @@ ghost use Rattle.rec_store.specs.Contents.{CardFails, IsUnwritten, OpenFails, Sl
 ghost use Rattle.rec_store.specs.EntrySlot.{HasThreeBytes};
 ghost use Rattle.rec_store.specs.Reopens.{AreSpare, IsAtRest, IsInLayout, Keeps, Reopens, ReopensAsOne, load_page, store_page};
 ghost use Rattle.rec_store.specs.Reading.{IsRead};
-ghost use Rattle.card_types.specs.Layout.{HasSlots};
 ghost use Rattle.rec_store.specs.StoredTables.{AreRoomy, HoldsTables};
 ghost use Rattle.rec_store.specs.declared.store_layout.Layout.{Layout as LayoutOf};
 ghost use Rattle.rec_store.specs.declared.store_layout.Layout.TheVariants.{Third};

@@ -1,8 +1,7 @@
 //! All slots of one kind.
 
 ghost use Rattle.std.specs.Prelude.{◌≡◌, ◌≢◌, ◌⊎◌, ◌+◌, ◌*◌, ◌/◌, ◌%◌, ◌<◌, ◌≤◌, ℕ, List, [], Option, true, length, slice_get, All, IsSome, IfSome, IfOk, OnOk, OnErr, IfErr};
-ghost use Rattle.card_types.specs.Represents.{used};
-ghost use Rattle.card_types.specs.Slots.{held};
+ghost use Rattle.card_types.specs.Represents.{used, held};
 ghost use Rattle.faults.specs.Faults.{HasCause, Rose};
 ghost use Rattle.flash_core.specs.declared.page.Page.{Page as PageOf};
 ghost use Rattle.frame_pool.specs.Staged.{staged, with_page};

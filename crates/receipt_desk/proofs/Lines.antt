@@ -2,8 +2,7 @@
 use Rattle.std.proofs.Common.{ℕ, List, Option, None, Some}
 use Rattle.std.specs.Prelude.{◌⊎◌}
 use Rattle.script_tool.specs.Line.{IsBlank, IsComment}
-use Rattle.script_tool.specs.Reads.{Reads}
-use Rattle.script_tool.specs.Words.{words_of}
+use Rattle.script_tool.specs.Words.{Reads, words_of}
 use Rattle.receipt_desk.specs.Lines.{SaysDesk, SaysWords}
 use Rattle.receipt_desk.specs.declared.line.DeskLine.{DeskLine}
 use Rattle.receipt_desk.specs.declared.line.DeskLine.TheVariants.{Nothing, Key, Unique, From, Sign, Receipt}

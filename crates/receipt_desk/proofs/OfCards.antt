@@ -5,7 +5,7 @@ use Rattle.std.specs.Option.{option_map}
 use Rattle.std.proofs.lemmas.Bool.{and_parts, eqb-true}
 use Rattle.std.proofs.lemmas.List.Elements.{All-contains}
 use Rattle.card_types.proofs.LeastOfList.{found_fits}
-use Rattle.card_types.specs.AidOrder.{same_aid}
+use Rattle.card_types.specs.Aid.{same_aid}
 use Rattle.card_types.specs.Registry.{Entry, Key, Object, Registry, entry_named, object_named}
 use Rattle.card_types.specs.Well.{IsWellEntry, IsWellKey, IsWellObject, Well}
 use Rattle.card_types.specs.declared.factory.TheConstants.{ISSUER}

@@ -8,8 +8,7 @@ use Rattle.std.specs.Int.{from_be_bytes, to_be_bytes, w16}
 use Rattle.script_lines.proofs.OneKey.{first, one_key}
 use Rattle.script_lines.proofs.OneValue.{no_hyphen, one_aid, one_byte, one_up_to, one_vec}
 use Rattle.script_tool.specs.Line.{IsBlank, IsComment}
-use Rattle.script_tool.specs.Values.{SpellsUpTo}
-use Rattle.script_tool.specs.Words.{words_of}
+use Rattle.script_tool.specs.Words.{SpellsUpTo, words_of}
 use Rattle.script_lines.specs.declared.keys.OfSize.{OfSize}
 use Rattle.arrayvec.specs.ArrayVec.{ArrayVec}
 use Rattle.receipt_desk.specs.Lines.{OneDeskLine, SaysDesk, SaysFrom, SaysKey, SaysReceipt, SaysSign, SaysUnique, SaysWords, SpellAids, SpellsNumber, SpellsSomeOrNone}

@@ -4,8 +4,7 @@ use Rattle.std.specs.Int.{to_be_bytes, w16}
 use Rattle.hex.specs.Hex.{decode_of}
 use Rattle.script_tool.specs.Keys.{SpellsKey}
 use Rattle.script_tool.specs.Line.{IsBlank, IsComment}
-use Rattle.script_tool.specs.Values.{SpellsAid, SpellsByte, SpellsUpTo}
-use Rattle.script_tool.specs.Words.{words_of}
+use Rattle.script_tool.specs.Words.{SpellsAid, SpellsByte, SpellsUpTo, words_of}
 use Rattle.script_lines.specs.declared.keys.OfSize.{OfSize}
 use Rattle.receipt_desk.specs.declared.aids.Aids.{Aids}
 use Rattle.receipt_desk.specs.declared.aids.Aids.TheVariants.{One, Two, Three}

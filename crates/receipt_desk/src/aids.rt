@@ -2,8 +2,7 @@
 
 ghost use Rattle.receipt_desk.specs.Lines.{SpellAids};
 ghost use Rattle.receipt_desk.specs.declared.aids.Aids.{Aids};
-ghost use Rattle.script_tool.specs.Reads.{Reads};
-ghost use Rattle.script_tool.specs.Words.{left};
+ghost use Rattle.script_tool.specs.Words.{Reads, left};
 
 use card_types::Aid;
 use script_tool::values::aid;

@@ -1,8 +1,7 @@
 //! What a line says to a desk.
 
 ghost use Rattle.receipt_desk.specs.Lines.{SaysDesk, SaysFrom, SaysKey, SaysUnique, SaysWords, SpellsNumber};
-ghost use Rattle.script_tool.specs.Reads.{Reads};
-ghost use Rattle.script_tool.specs.Words.{left};
+ghost use Rattle.script_tool.specs.Words.{Reads, left};
 
 use crate::receipted::{self, Receipted};
 use crate::signing::{self, Signing, bytes_or_none};
@@ -34,7 +33,7 @@ pub enum DeskLine {
 }
 
 // The number that four digits spell.
-#[tactic(auto, unfolding(crate::specs::Lines::SpellsNumber, script_lines::specs::Values::SpellsSome))]
+#[tactic(auto, unfolding(crate::specs::Lines::SpellsNumber, script_lines::specs::Words::SpellsSome))]
 fn number(word: &[u8]) -> Option<u16>
     ensures { Reads (SpellsNumber word.now) result }
 {

@@ -1,8 +1,7 @@
 //! Receipts to judge.
 
 ghost use Rattle.receipt_desk.specs.Lines.{SaysReceipt};
-ghost use Rattle.script_tool.specs.Reads.{Reads};
-ghost use Rattle.script_tool.specs.Words.{left};
+ghost use Rattle.script_tool.specs.Words.{Reads, left};
 
 use crate::aids::{self, Aids};
 use arrayvec::ArrayVec;

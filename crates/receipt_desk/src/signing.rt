@@ -1,8 +1,7 @@
 //! Commands to approve.
 
 ghost use Rattle.receipt_desk.specs.Lines.{SaysSign, SpellsSomeOrNone};
-ghost use Rattle.script_tool.specs.Reads.{Reads};
-ghost use Rattle.script_tool.specs.Words.{left};
+ghost use Rattle.script_tool.specs.Words.{Reads, left};
 
 use arrayvec::ArrayVec;
 use script_tool::values::{byte, bytes};

@@ -3,15 +3,13 @@ use Rattle.std.proofs.Common.{◌≡◌, ◌↔◌, inl, inr, ℕ, List, Option,
 use Rattle.std.specs.Prelude.{IsErrAnd, IsSome, Result, Ok, Err}
 use Rattle.std.specs.Option.{option_map}
 use Rattle.std.proofs.lemmas.Cmp.{nat_list_cmp_total, on_total}
-use Rattle.card_types.specs.AidOrder.{aid_order, same_aid}
-use Rattle.card_types.specs.Changed.{IsChanged}
-use Rattle.card_types.specs.First.{IsFirstFree, NoneFree}
+use Rattle.card_types.specs.Aid.{aid_order, same_aid}
+use Rattle.card_types.specs.RegistryChange.{IsChanged, IsEntryAdded, IsFileAdded}
+use Rattle.card_types.specs.Search.{IsFirstFree, NoneFree}
 use Rattle.card_types.specs.Found.{aid_of}
 use Rattle.card_types.specs.Registry as registry
 use Rattle.card_types.specs.Registry.{entry_named, file_named}
-use Rattle.card_types.specs.RegistryChange.{IsEntryAdded, IsFileAdded}
-use Rattle.card_types.specs.Represents.{Represents, entry_of, file_of}
-use Rattle.card_types.specs.Slots.{held}
+use Rattle.card_types.specs.Represents.{Represents, entry_of, file_of, held}
 use Rattle.card_types.specs.Well.{Well}
 use Rattle.card_types.specs.declared.found.Found.{Found}
 use Rattle.card_types.specs.declared.found.Found.TheVariants as found

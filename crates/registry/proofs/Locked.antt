@@ -7,14 +7,13 @@ use Rattle.std.proofs.lemmas.Bool.{cases_Bool}
 use Rattle.std.proofs.lemmas.List.Sorted.{IsPermutation-map}
 use Rattle.card_types.specs.Registry as registry
 use Rattle.card_types.specs.RegistryChange.{with_locks}
-use Rattle.card_types.specs.Represents.{Represents, counter_of, domain_aid, entry_of, file_of, keeps_counter, key_of, object_of, used}
-use Rattle.card_types.specs.Slots.{held}
+use Rattle.card_types.specs.Represents.{Represents, counter_of, domain_aid, entry_of, file_of, keeps_counter, key_of, object_of, used, held}
 use Rattle.card_types.specs.Well.{Well}
 use Rattle.card_types.specs.declared.tables.Entry.{Entry}
 use Rattle.card_types.specs.declared.tables.Tables.{Tables}
 use Rattle.card_types.proofs.ChangedSlot.{same_all, same_slots}
 use Rattle.card_types.proofs.MappedEntries.{entries_changed_ascending, some_keep}
-use Rattle.domain_tree.specs.AboveLaws.{IsTreeOf}
+use Rattle.domain_tree.specs.Above.{IsTreeOf}
 use Rattle.registry.specs.Tree.{LocksTree, with_lock}
 use Rattle.registry.proofs.Tree.{in_tree_named, named_in_tree, these, these_tell, used_in_tree}
 

@@ -4,8 +4,7 @@ use Rattle.std.specs.Prelude.{slice_set}
 use Rattle.std.specs.Option.{option_map}
 use Rattle.std.proofs.lemmas.Bool.{cases_eq}
 use Rattle.std.proofs.lemmas.List.{get_or-set_other, get_or-set_same, length-set}
-use Rattle.card_types.specs.Represents.{domain_slot}
-use Rattle.card_types.specs.Slots.{held}
+use Rattle.card_types.specs.Represents.{domain_slot, held}
 use Rattle.card_types.specs.declared.tables.Entry.{Entry}
 use Rattle.card_types.proofs.DrawnCounter.{held_within}
 use Rattle.rec_store.specs.Places.{entry_page}

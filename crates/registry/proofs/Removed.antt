@@ -7,14 +7,12 @@ use Rattle.std.specs.Cmp.{IsTotalOrder}
 use Rattle.std.specs.declared.cmp.Ordering.{Ordering}
 use Rattle.std.proofs.lemmas.Bool.{eq-eqb, eqb-true, not-true}
 use Rattle.std.proofs.lemmas.List.Kept.{IsStrictlySortedBy-filter}
-use Rattle.card_types.specs.AidOrder.{aid_order, same_aid}
-use Rattle.card_types.specs.Ascending.{counter_order, key_order, object_order}
-use Rattle.card_types.specs.Changed.{IsChanged, IsRemoved}
+use Rattle.card_types.specs.Aid.{aid_order, same_aid}
+use Rattle.card_types.specs.Registry.{counter_order, key_order, object_order}
+use Rattle.card_types.specs.RegistryChange.{IsChanged, IsRemoved, without_entry}
 use Rattle.card_types.specs.Registry as registry
-use Rattle.card_types.specs.RegistryChange.{without_entry}
-use Rattle.card_types.specs.Represents.{Represents, counter_of, domain_aid, entry_of, keeps_counter, key_of, object_of, used}
+use Rattle.card_types.specs.Represents.{Represents, counter_of, domain_aid, entry_of, keeps_counter, key_of, object_of, used, held}
 use Rattle.card_types.specs.SlotChange.{SetsEntry}
-use Rattle.card_types.specs.Slots.{held}
 use Rattle.card_types.specs.Well.{Well}
 use Rattle.card_types.specs.declared.tables.Entry.{Entry}
 use Rattle.card_types.specs.declared.tables.KeyRec.{KeyRec}

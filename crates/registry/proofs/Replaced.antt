@@ -2,14 +2,12 @@
 use Rattle.std.proofs.Common.{◌≡◌, ℕ, List, [], Option, None, Some, refl, ap, sym, subst}
 use Rattle.std.specs.Prelude.{Contains, IsSome, unwrap_or}
 use Rattle.std.specs.Option.{option_map}
-use Rattle.card_types.specs.AidOrder.{aid_order, same_aid}
-use Rattle.card_types.specs.Changed.{IsChanged, IsRemoved, IsReplaced}
+use Rattle.card_types.specs.Aid.{aid_order, same_aid}
+use Rattle.card_types.specs.RegistryChange.{IsChanged, IsRemoved, IsReplaced, moved, with_entries, without_file}
 use Rattle.card_types.specs.Registry as registry
 use Rattle.card_types.specs.Registry.{entry_named}
-use Rattle.card_types.specs.RegistryChange.{moved, with_entries, without_file}
-use Rattle.card_types.specs.Represents.{Represents, domain_aid, entry_of, file_aid, file_of}
+use Rattle.card_types.specs.Represents.{Represents, domain_aid, entry_of, file_aid, file_of, held}
 use Rattle.card_types.specs.SlotChange.{SetsEntry, SetsFile}
-use Rattle.card_types.specs.Slots.{held}
 use Rattle.card_types.specs.Well.{IsWellFile, Well}
 use Rattle.card_types.specs.declared.tables.Entry.{Entry}
 use Rattle.card_types.specs.declared.tables.LoadFile.{LoadFile}

@@ -5,16 +5,14 @@ use Rattle.std.proofs.lemmas.Bool.{cases_eq}
 use Rattle.card_types.specs.Hierarchy.{IsLine, IsPath}
 use Rattle.card_types.specs.Registry as registry
 use Rattle.card_types.specs.Registry.{domain_of, entry_named}
-use Rattle.card_types.specs.Represents.{Represents, domain_aid, domain_slot}
-use Rattle.card_types.specs.Slots.{held}
+use Rattle.card_types.specs.Represents.{Represents, domain_aid, domain_slot, held}
 use Rattle.card_types.specs.Well.{Well}
 use Rattle.card_types.specs.declared.tables.Entry.{Entry}
 use Rattle.card_types.specs.declared.tables.Tables.{Tables}
 use Rattle.card_types.proofs.Domains.{domain_aid_is, same_domain, used_from_step}
 use Rattle.card_types.proofs.EntryNames.{entry_in_slot, slot_of_entry}
 use Rattle.card_types.proofs.LineChanges.{leads_kept}
-use Rattle.domain_tree.specs.Above.{Above}
-use Rattle.domain_tree.specs.AboveLaws.{IsTreeOf}
+use Rattle.domain_tree.specs.Above.{Above, IsTreeOf}
 use Rattle.domain_tree.specs.Slots.{IsFreeOfLoops}
 use Rattle.domain_tree.proofs.AboveNamed.{above_in_slots, above_named, free_of_loops}
 use Rattle.domain_tree.proofs.Climb.{above_next, none_above_root, steps_from}

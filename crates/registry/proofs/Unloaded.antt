@@ -13,12 +13,11 @@ use Rattle.card_types.proofs.LeastOfList.{sorted_by_name}
 use Rattle.card_types.proofs.NamedThings.{sorted_kept}
 use Rattle.card_types.proofs.SameAid.{same_aid_decides}
 use Rattle.card_types.proofs.Shows.{held_from_used}
-use Rattle.card_types.specs.AidOrder.{aid_order, same_aid}
+use Rattle.card_types.specs.Aid.{aid_order, same_aid}
 use Rattle.card_types.specs.Privileges.{has, security_domain}
 use Rattle.card_types.specs.Registry as registry
 use Rattle.card_types.specs.RegistryChange.{without_applications}
-use Rattle.card_types.specs.Represents.{Represents, domain_aid, entry_of, file_aid, used}
-use Rattle.card_types.specs.Slots.{held}
+use Rattle.card_types.specs.Represents.{Represents, domain_aid, entry_of, file_aid, used, held}
 use Rattle.card_types.specs.Well.{Well}
 use Rattle.card_types.specs.declared.factory.TheConstants.{FACTORY_FILE}
 use Rattle.card_types.specs.declared.tables.Entry.{Entry}

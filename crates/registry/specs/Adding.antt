@@ -1,6 +1,6 @@
 -- For the code inside. Things that join the registry, and those that do not.
 use Rattle.std.specs.Prelude.{◌≡◌, ◌≢◌, ◌⊎◌, ℕ, List, Option, Some, IsSome}
-use Rattle.card_types.specs.First.{IsFirstFree, NoneFree}
+use Rattle.card_types.specs.Search.{IsFirstFree, NoneFree}
 use Rattle.card_types.specs.Found.{aid_of}
 use Rattle.card_types.specs.Registry.{Registry, entry_named, file_named}
 use Rattle.card_types.specs.SlotChange.{SetsEntry, SetsFile}

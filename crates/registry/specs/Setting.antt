@@ -2,7 +2,7 @@
 use Rattle.std.specs.Prelude.{ℕ}
 use Rattle.std.specs.Option.{option_map}
 use Rattle.card_types.specs.SlotChange.{SetsEntry, SetsFile}
-use Rattle.card_types.specs.Slots.{held}
+use Rattle.card_types.specs.Represents.{held}
 use Rattle.card_types.specs.declared.found.Found.{Found}
 use Rattle.card_types.specs.declared.found.Found.TheVariants as found
 use Rattle.card_types.specs.declared.tables.Entry.{Entry}

@@ -2,8 +2,7 @@
 -- 2.3.1, 11.10).
 use Rattle.std.specs.Prelude.{◌≡◌, ◌⊎◌, ℕ, List, Bool, Option, length}
 use Rattle.std.specs.Option.{option_map}
-use Rattle.card_types.specs.Represents.{domain_slot}
-use Rattle.card_types.specs.Slots.{held}
+use Rattle.card_types.specs.Represents.{domain_slot, held}
 use Rattle.card_types.specs.declared.tables.Entry.{Entry}
 use Rattle.card_types.specs.declared.tables.Tables.{Tables}
 use Rattle.domain_tree.specs.Above.{Above}

@@ -1,11 +1,10 @@
 //! Entries: they are added, and changed in their slots (GlobalPlatform Card Specification 2.3.1, 6.5).
 
 ghost use Rattle.std.specs.Prelude.{◌≡◌, ◌↔◌, ℕ, List, true, length, Err, IfOk, OnErr, OnOk, IsSome};
-ghost use Rattle.card_types.specs.First.{NoneFree};
+ghost use Rattle.card_types.specs.Search.{NoneFree};
 ghost use Rattle.card_types.specs.Registry.{Registry};
 ghost use Rattle.card_types.specs.RegistryChange.{IsEntryAdded, with_life, with_receipts};
-ghost use Rattle.card_types.specs.Represents.{Represents, domain_aid, entry_of};
-ghost use Rattle.card_types.specs.Slots.{held};
+ghost use Rattle.card_types.specs.Represents.{Represents, domain_aid, entry_of, held};
 ghost use Rattle.card_types.specs.Well.{Well};
 ghost use Rattle.card_types.specs.declared.limits.TheConstants.{ENTRIES};
 ghost use Rattle.rec_store.specs.Places.{entry_page};

@@ -2,12 +2,11 @@
 
 ghost use Rattle.std.specs.Prelude.{◌≡◌, ◌↔◌, ℕ, List, [], ◌∷◌, true, None, length, Err, IfOk, OnErr, OnOk, IsSome};
 ghost use Rattle.card_check.specs.IsCard.{IsInLoadPages};
-ghost use Rattle.card_types.specs.First.{IsFirstFree, NoneFree};
+ghost use Rattle.card_types.specs.Search.{IsFirstFree, NoneFree};
 ghost use Rattle.card_types.specs.Registry.{Registry};
 ghost use Rattle.card_types.specs.RegistryChange.{IsFileAdded, without_file};
-ghost use Rattle.card_types.specs.Represents.{Represents, file_aid, file_of};
+ghost use Rattle.card_types.specs.Represents.{Represents, file_aid, file_of, held};
 ghost use Rattle.card_types.specs.SlotChange.{SetsFile};
-ghost use Rattle.card_types.specs.Slots.{held};
 ghost use Rattle.card_types.specs.Well.{Well};
 ghost use Rattle.card_types.specs.declared.limits.TheConstants.{FILES};
 ghost use Rattle.rec_store.specs.Places.{file_page};

@@ -4,11 +4,10 @@ ghost use Rattle.std.specs.Prelude.{◌≡◌, ◌≢◌, ◌↔◌, ◌⊎◌, 
 ghost use Rattle.std.specs.Option.{option_map};
 ghost use Rattle.card_types.specs.Registry.{Registry};
 ghost use Rattle.card_types.specs.RegistryChange.{with_locks};
-ghost use Rattle.card_types.specs.Represents.{Represents, domain_aid};
-ghost use Rattle.card_types.specs.Slots.{held};
+ghost use Rattle.card_types.specs.Represents.{Represents, domain_aid, held};
 ghost use Rattle.card_types.specs.Well.{Well};
 ghost use Rattle.card_types.specs.declared.limits.TheConstants.{ENTRIES};
-ghost use Rattle.domain_tree.specs.AboveLaws.{IsTreeOf};
+ghost use Rattle.domain_tree.specs.Above.{IsTreeOf};
 ghost use Rattle.domain_tree.specs.Slots.{IsFreeOfLoops};
 ghost use Rattle.rec_store.specs.Places.{entry_page};
 ghost use Rattle.rec_store.specs.Room.{HasRoomFor};

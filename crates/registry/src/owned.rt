@@ -1,7 +1,7 @@
 //! What one thing owns, in slots of one kind (GlobalPlatform Card Specification 2.3.1, 9.5).
 
 ghost use Rattle.std.specs.Prelude.{◌≡◌, ◌<◌, ℕ, List, Option, true, None, length, map, slice_set};
-ghost use Rattle.card_types.specs.Slots.{held};
+ghost use Rattle.card_types.specs.Represents.{held};
 ghost use Rattle.card_types.specs.declared.tables.Tables.{Tables};
 ghost use Rattle.rec_store.specs.Room.{HasRoomFor, with_staged};
 ghost use Rattle.registry.specs.TableLists.{TableLists};

@@ -1,8 +1,8 @@
 //! Where a thing is added (this profile's own).
 
 ghost use Rattle.std.specs.Prelude.{◌≤◌, IfOk, IfErr, OnOk, length};
-ghost use Rattle.card_types.specs.First.{IsFirstFree};
-ghost use Rattle.card_types.specs.Layout.{HasSlots};
+ghost use Rattle.card_types.specs.Search.{IsFirstFree};
+ghost use Rattle.card_types.specs.Represents.{HasSlots};
 ghost use Rattle.registry.specs.Adding.{NoneHas, PlaceFails};
 
 use crate::refusal::AddRefusal;

@@ -3,8 +3,7 @@
 ghost use Rattle.std.specs.Prelude.{◌≡◌, ℕ, List, true, IsSome};
 ghost use Rattle.card_types.specs.Registry.{Registry};
 ghost use Rattle.card_types.specs.RegistryChange.{without_entry};
-ghost use Rattle.card_types.specs.Represents.{Represents, domain_aid};
-ghost use Rattle.card_types.specs.Slots.{held};
+ghost use Rattle.card_types.specs.Represents.{Represents, domain_aid, held};
 ghost use Rattle.card_types.specs.Well.{Well};
 ghost use Rattle.rec_store.specs.Room.{HasRoomFor};
 ghost use Rattle.registry.specs.Pages.{KeepsRoom, owner_pages};

@@ -15,7 +15,7 @@ use Rattle.card_types.specs.declared.level.Level.TheVariants.{Mac, EncMac, MacR,
 use Rattle.script_lines.specs.Install.{SpellsParameters, SpellsPrivileges, install_p1}
 use Rattle.script_lines.specs.Load.{SpellsCount, SpellsDomain, hash_word}
 use Rattle.script_lines.specs.Send.{SpellsPlain, apdu_with}
-use Rattle.script_lines.specs.Values.{SpellsAid, SpellsByte, SpellsLevel, SpellsSome, SpellsStatus, SpellsUpTo}
+use Rattle.script_lines.specs.Words.{SpellsAid, SpellsByte, SpellsLevel, SpellsSome, SpellsStatus, SpellsUpTo}
 use Rattle.script_lines.specs.declared.load_file.HashFunction.{HashFunction}
 use Rattle.script_lines.specs.declared.load_file.HashFunction.TheVariants.{Sha1, Sha256}
 use Rattle.script_lines.specs.declared.plain.Plain.{Plain}

@@ -11,7 +11,7 @@ use Rattle.script_lines.proofs.Spelled.{aid_bytes, application_digits, challenge
 use Rattle.script_lines.specs.Install.{SpellsParameters, SpellsPrivileges}
 use Rattle.script_lines.specs.Load.{SpellsCount, SpellsDomain}
 use Rattle.script_lines.specs.Round.{application_of, challenge_of, digits_of, file_of, lines_of}
-use Rattle.script_lines.specs.Values.{SpellsAid, SpellsByte, SpellsSome, SpellsUpTo}
+use Rattle.script_lines.specs.Words.{SpellsAid, SpellsByte, SpellsSome, SpellsUpTo}
 use Rattle.script_lines.specs.Workload.{AreLines, IsLine}
 use Rattle.script_lines.specs.declared.control.Control.TheVariants.{Reset}
 use Rattle.script_lines.specs.declared.exchange.Exchange.TheVariants.{Open, Install, Selectable, Load, Delete, Store, Life, List as Listed}

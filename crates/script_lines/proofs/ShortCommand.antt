@@ -5,7 +5,7 @@ use Rattle.std.proofs.lemmas.List.Elements.{All-head, All-tail}
 use Rattle.hex.specs.Hex.{decode_of}
 use Rattle.hex.proofs.HexLemmas.{decode_of-same}
 use Rattle.apdu_core.specs.Apdu.{Apdu, Short, after_header}
-use Rattle.script_lines.specs.Reads.{Reads}
+use Rattle.script_lines.specs.Words.{Reads}
 use Rattle.script_lines.specs.Send.{IsPlain, SpellsPlain}
 use Rattle.script_lines.specs.declared.plain.Plain.{Plain}
 

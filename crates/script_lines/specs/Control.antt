@@ -4,7 +4,7 @@ use Rattle.apdu_core.specs.declared.reply.Status.{Status}
 use Rattle.script_lines.specs.Channel.{SaysChannel}
 use Rattle.script_lines.specs.Keys.{SaysKeys}
 use Rattle.script_lines.specs.TokenKey.{SaysTokens}
-use Rattle.script_lines.specs.Values.{SpellsStatus}
+use Rattle.script_lines.specs.Words.{SpellsStatus}
 use Rattle.script_lines.specs.declared.control.Control as the_type
 use Rattle.script_lines.specs.declared.control.Control.TheVariants.{Reset, Channel, Keys, Tokens, Want}
 

@@ -1,6 +1,6 @@
 -- `delete AID P2` is DELETE of an object (GlobalPlatform Card Specification 2.3.1, 11.2).
 use Rattle.std.specs.Prelude.{◌≡◌, ℕ, List, [], ◌∷◌, codes, ◌++◌}
-use Rattle.script_lines.specs.Values.{SpellsAid, SpellsByte}
+use Rattle.script_lines.specs.Words.{SpellsAid, SpellsByte}
 use Rattle.script_lines.specs.declared.deletion.Deletion.{Deletion}
 use Rattle.apdu_core.specs.Apdu.{Apdu}
 use Rattle.tokens_receipts.specs.Token.{object_named_by, token_element}

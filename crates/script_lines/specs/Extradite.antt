@@ -1,6 +1,6 @@
 -- `extradite AID DOMAIN` is INSTALL for extradition (GlobalPlatform Card Specification 2.3.1, 11.5.2.3.4).
 use Rattle.std.specs.Prelude.{◌≡◌, ℕ, List, [], ◌∷◌, codes}
-use Rattle.script_lines.specs.Values.{SpellsAid}
+use Rattle.script_lines.specs.Words.{SpellsAid}
 use Rattle.script_lines.specs.declared.extradition.Extradition.{Extradition}
 use Rattle.apdu_core.specs.Apdu.{Apdu}
 use Rattle.script_lines.specs.Tokens.{install_command}

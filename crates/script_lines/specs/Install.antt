@@ -1,6 +1,6 @@
 -- `install P1 FILE MODULE AID PRIV PARAMS` is INSTALL for install (GlobalPlatform Card Specification 2.3.1, 11.5.2.3.2).
 use Rattle.std.specs.Prelude.{◌≡◌, ◌⊎◌, ℕ, List, [], ◌∷◌, length, codes, Bool, true, false}
-use Rattle.script_lines.specs.Values.{SpellsAid, SpellsByte, SpellsUpTo}
+use Rattle.script_lines.specs.Words.{SpellsAid, SpellsByte, SpellsUpTo}
 use Rattle.script_lines.specs.declared.install.Installation.{Installation}
 use Rattle.apdu_core.specs.Apdu.{Apdu}
 use Rattle.script_lines.specs.Tokens.{install_command}

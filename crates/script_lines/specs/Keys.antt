@@ -1,6 +1,6 @@
 -- Keys of AES, as lines write them.
 use Rattle.std.specs.Prelude.{◌≡◌, ℕ, List, [], ◌∷◌, codes}
-use Rattle.script_lines.specs.Values.{SpellsSome}
+use Rattle.script_lines.specs.Words.{SpellsSome}
 use Rattle.script_lines.specs.declared.keys.OfSize.{OfSize}
 use Rattle.script_lines.specs.declared.keys.OfSize.TheVariants.{Aes128, Aes192, Aes256}
 use Rattle.script_lines.specs.declared.keys.Trio.{Trio}

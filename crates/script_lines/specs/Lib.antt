@@ -15,7 +15,7 @@ pub mod Open
 pub mod PutKey
 pub mod Quiet
 pub mod Raw
-pub mod Reads
+pub mod Words
 pub mod Round
 pub mod Select
 pub mod Selectable
@@ -23,7 +23,5 @@ pub mod Send
 pub mod Store
 pub mod TokenKey
 pub mod Tokens
-pub mod Values
 pub mod Verb
-pub mod Words
 pub mod Workload

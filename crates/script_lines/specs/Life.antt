@@ -1,6 +1,6 @@
 -- `life P1 P2 [AID]` is SET STATUS (GlobalPlatform Card Specification 2.3.1, 11.10).
 use Rattle.std.specs.Prelude.{◌≡◌, ℕ, List, [], ◌∷◌, codes, Option, Some, None}
-use Rattle.script_lines.specs.Values.{SpellsAid, SpellsByte}
+use Rattle.script_lines.specs.Words.{SpellsAid, SpellsByte}
 use Rattle.script_lines.specs.declared.life.LifeChange.{LifeChange}
 use Rattle.apdu_core.specs.Apdu.{Apdu}
 use Rattle.script_lines.specs.Command.{plain_command}

@@ -1,7 +1,7 @@
 -- `list P1 [AID]` and `more P1 [AID]` are GET STATUS, for the first and for the next objects (GlobalPlatform Card Specification
 -- 2.3.1, 11.4).
 use Rattle.std.specs.Prelude.{◌≡◌, ℕ, List, [], ◌∷◌}
-use Rattle.script_lines.specs.Values.{SpellsByte, SpellsUpTo}
+use Rattle.script_lines.specs.Words.{SpellsByte, SpellsUpTo}
 use Rattle.script_lines.specs.declared.listing.Listing.{Listing}
 use Rattle.apdu_core.specs.Apdu.{Apdu}
 use Rattle.tokens_receipts.specs.Receipt.{with_length}

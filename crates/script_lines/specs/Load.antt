@@ -1,7 +1,7 @@
 -- `load FILE DOMAIN HASH HEX` and `load FILE DOMAIN HASH fill N BB` load an Executable Load File (GlobalPlatform Card
 -- Specification 2.3.1, 11.5.2.3.1, 11.6).
 use Rattle.std.specs.Prelude.{◌≡◌, ◌≤◌, ℕ, zero, suc, ◌+◌, ◌==◌, drop, take, List, [], ◌∷◌, codes, decimal, Option, Some, None, replicate, if◌then◌else◌, length, Bool, nat_lt, ◌/◌, ◌%◌, ◌++◌}
-use Rattle.script_lines.specs.Values.{SpellsAid, SpellsByte, SpellsUpTo}
+use Rattle.script_lines.specs.Words.{SpellsAid, SpellsByte, SpellsUpTo}
 use Rattle.script_lines.specs.declared.load_file.HashFunction.{HashFunction}
 use Rattle.script_lines.specs.declared.load_file.HashFunction.TheVariants.{Sha1, Sha256}
 use Rattle.script_lines.specs.declared.load_file.Content.{Content}

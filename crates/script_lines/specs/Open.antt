@@ -1,6 +1,6 @@
 -- `open VV LL CHALLENGE` begins a session (GlobalPlatform Amendment D, 7.1.1, 7.1.2).
 use Rattle.std.specs.Prelude.{◌≡◌, ℕ, List, [], ◌∷◌, codes}
-use Rattle.script_lines.specs.Values.{SpellsByte, SpellsLevel, SpellsSome}
+use Rattle.script_lines.specs.Words.{SpellsByte, SpellsLevel, SpellsSome}
 use Rattle.script_lines.specs.declared.opening.Opening.{Opening}
 
 -- the key version number, the security level and the host challenge of 8 bytes

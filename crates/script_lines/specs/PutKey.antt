@@ -1,7 +1,7 @@
 -- `putkey OLD NEW KEY [KEY KEY]` is PUT KEY (GlobalPlatform Card Specification 2.3.1, 11.8; Amendment D, 7.2).
 use Rattle.std.specs.Prelude.{◌≡◌, ℕ, List, [], ◌∷◌, codes, length, ◌++◌, ◌-◌, replicate}
 use Rattle.script_lines.specs.Keys.{SpellTrio}
-use Rattle.script_lines.specs.Values.{SpellsByte, SpellsSome}
+use Rattle.script_lines.specs.Words.{SpellsByte, SpellsSome}
 use Rattle.script_lines.specs.declared.keys.OfSize.{OfSize}
 use Rattle.script_lines.specs.declared.keys.OfSize.TheVariants.{Aes128, Aes192, Aes256}
 use Rattle.script_lines.specs.declared.put_key.NewKeys.{NewKeys}

@@ -1,6 +1,6 @@
 -- `select [AID]` is SELECT (GlobalPlatform Card Specification 2.3.1, 11.9).
 use Rattle.std.specs.Prelude.{◌≡◌, ℕ, List, [], ◌∷◌, codes, Option, Some, None}
-use Rattle.script_lines.specs.Values.{SpellsAid}
+use Rattle.script_lines.specs.Words.{SpellsAid}
 use Rattle.apdu_core.specs.Apdu.{Apdu}
 use Rattle.script_lines.specs.Life.{aid_or_none}
 

@@ -1,6 +1,6 @@
 -- `selectable AID` is INSTALL for make selectable (GlobalPlatform Card Specification 2.3.1, 11.5.2.3.3).
 use Rattle.std.specs.Prelude.{◌≡◌, ℕ, List, [], ◌∷◌, codes}
-use Rattle.script_lines.specs.Values.{SpellsAid}
+use Rattle.script_lines.specs.Words.{SpellsAid}
 use Rattle.apdu_core.specs.Apdu.{Apdu}
 use Rattle.script_lines.specs.Tokens.{install_command}
 use Rattle.script_lines.specs.declared.tokens.Tokens.{Tokens}

@@ -1,7 +1,7 @@
 -- `store HEX` is STORE DATA, of one block (GlobalPlatform Card Specification 2.3.1, 11.11).
 use Rattle.std.specs.Prelude.{◌≡◌, ℕ, List, [], ◌∷◌, codes}
 use Rattle.arrayvec.specs.ArrayVec.{ArrayVec}
-use Rattle.script_lines.specs.Values.{SpellsUpTo}
+use Rattle.script_lines.specs.Words.{SpellsUpTo}
 use Rattle.apdu_core.specs.Apdu.{Apdu}
 use Rattle.script_lines.specs.Command.{plain_command}
 

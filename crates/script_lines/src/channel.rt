@@ -2,8 +2,7 @@
 
 ghost use Rattle.std.specs.Prelude.{◌≡◌, ◌+◌, ◌∷◌, [], ◌<◌};
 ghost use Rattle.script_lines.specs.Channel.{SaysChannel, number_of};
-ghost use Rattle.script_lines.specs.Reads.{Reads};
-ghost use Rattle.script_lines.specs.Words.{left};
+ghost use Rattle.script_lines.specs.Words.{Reads, left};
 
 use crate::words::Words;
 

@@ -1,8 +1,7 @@
 //! The lines that send nothing to the card (this profile's own).
 
 ghost use Rattle.script_lines.specs.Control.{SaysControl, SaysReset, SaysWant};
-ghost use Rattle.script_lines.specs.Reads.{Reads};
-ghost use Rattle.script_lines.specs.Words.{left};
+ghost use Rattle.script_lines.specs.Words.{Reads, left};
 
 use crate::channel::{self, Channel};
 use crate::keys::{self, Keys};

@@ -1,8 +1,7 @@
 //! The lines that send commands to the card (this profile's own).
 
 ghost use Rattle.script_lines.specs.Exchange.{SaysExchange};
-ghost use Rattle.script_lines.specs.Reads.{Reads};
-ghost use Rattle.script_lines.specs.Words.{left};
+ghost use Rattle.script_lines.specs.Words.{Reads, left};
 
 use crate::deletion::{self, Deletion};
 use crate::extradition::{self, Extradition};

@@ -2,9 +2,8 @@
 
 ghost use Rattle.std.specs.Prelude.{◌≡◌};
 ghost use Rattle.script_lines.specs.Extradite.{SaysExtradite, extraditing};
-ghost use Rattle.script_lines.specs.Reads.{Reads};
+ghost use Rattle.script_lines.specs.Words.{Reads, left};
 ghost use Rattle.script_lines.specs.Send.{plain_of};
-ghost use Rattle.script_lines.specs.Words.{left};
 
 use crate::install::install;
 use crate::plain::Plain;

@@ -3,11 +3,9 @@
 ghost use Rattle.std.specs.Prelude.{◌≡◌, ◌≤◌, ℕ, List, length, flat_map};
 ghost use Rattle.tokens_receipts.specs.Receipt.{with_length};
 ghost use Rattle.script_lines.specs.Install.{SaysInstall, SpellsParameters, SpellsPrivileges, install_p1, installing};
-ghost use Rattle.script_lines.specs.Reads.{Reads};
+ghost use Rattle.script_lines.specs.Words.{Reads, SpellsByte, left};
 ghost use Rattle.script_lines.specs.Send.{plain_of};
 ghost use Rattle.script_lines.specs.Tokens.{install_command};
-ghost use Rattle.script_lines.specs.Values.{SpellsByte};
-ghost use Rattle.script_lines.specs.Words.{left};
 
 use crate::plain::Plain;
 use crate::tokens::Tokens;
@@ -72,7 +70,7 @@ pub fn install(tokens: &Tokens, p1: u8, body: DataField) -> Plain
 }
 
 // Whether P1 makes the application selectable.
-#[tactic(auto, unfolding(crate::specs::Values::SpellsByte))]
+#[tactic(auto, unfolding(crate::specs::Words::SpellsByte))]
 fn selectable(word: &[u8]) -> Option<bool>
     ensures { Reads (λ selectable. SpellsByte word.now (install_p1 selectable)) result }
 {
@@ -83,7 +81,7 @@ fn selectable(word: &[u8]) -> Option<bool>
     }
 }
 
-#[tactic(auto, unfolding(crate::specs::Install::SpellsPrivileges, crate::specs::Values::SpellsUpTo))]
+#[tactic(auto, unfolding(crate::specs::Install::SpellsPrivileges, crate::specs::Words::SpellsUpTo))]
 fn privileges(word: &[u8]) -> Option<ArrayVec<u8, 3>>
     ensures { Reads (λ privileges. SpellsPrivileges word.now privileges.items) result }
 {

@@ -1,8 +1,7 @@
 //! Keys of AES (this profile's own).
 
 ghost use Rattle.script_lines.specs.Keys.{SaysKeys, SpellKeys, SpellTrio, SpellsKey};
-ghost use Rattle.script_lines.specs.Reads.{Reads};
-ghost use Rattle.script_lines.specs.Words.{left};
+ghost use Rattle.script_lines.specs.Words.{Reads, left};
 
 use crate::values::array;
 use crate::words::Words;

@@ -3,8 +3,7 @@
 ghost use Rattle.std.specs.Prelude.{◌≡◌, IfNone, IfSome};
 ghost use Rattle.script_lines.specs.Line.{HasNoForm, SaysLine, SaysSending};
 ghost use Rattle.script_lines.specs.Quiet.{is_quiet};
-ghost use Rattle.script_lines.specs.Reads.{Reads};
-ghost use Rattle.script_lines.specs.Words.{left};
+ghost use Rattle.script_lines.specs.Words.{Reads, left};
 
 use crate::control::{self, Control};
 use crate::exchange::{self, Exchange};

@@ -2,7 +2,7 @@
 
 ghost use Rattle.std.specs.Prelude.{◌≡◌, ◌<◌, ◌≤◌, ◌^◌, ◌↔◌, ℕ, IsTrue, decimal, Some};
 ghost use Rattle.script_lines.specs.Load.{SpellsCount};
-ghost use Rattle.script_lines.specs.Reads.{Reads};
+ghost use Rattle.script_lines.specs.Words.{Reads};
 
 use itoa::Buffer;
 use std::str;

@@ -1,9 +1,8 @@
 //! Bytes to send, and the data of STORE DATA (GlobalPlatform Card Specification 2.3.1, 11.11).
 
 ghost use Rattle.script_lines.specs.Raw.{SaysRaw};
-ghost use Rattle.script_lines.specs.Reads.{Reads};
+ghost use Rattle.script_lines.specs.Words.{Reads, left};
 ghost use Rattle.script_lines.specs.Store.{SaysStore};
-ghost use Rattle.script_lines.specs.Words.{left};
 
 use crate::values::bytes;
 use crate::words::Words;

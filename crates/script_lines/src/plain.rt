@@ -2,9 +2,8 @@
 
 ghost use Rattle.std.specs.Prelude.{◌≡◌, ◌↔◌, IsTrue};
 ghost use Rattle.apdu_core.specs.Apdu.{apdu_of};
-ghost use Rattle.script_lines.specs.Reads.{Reads};
+ghost use Rattle.script_lines.specs.Words.{Reads, left};
 ghost use Rattle.script_lines.specs.Send.{IsPlain, SaysSend, SpellsPlain, plain_of};
-ghost use Rattle.script_lines.specs.Words.{left};
 
 use crate::values::bytes;
 use crate::words::Words;

@@ -4,9 +4,8 @@ ghost use Rattle.std.specs.Prelude.{◌≡◌, ◌∷◌};
 ghost use Rattle.std.specs.List.{flat_map};
 ghost use Rattle.policy_machine.specs.PutKey.{key_field};
 ghost use Rattle.script_lines.specs.PutKey.{SaysPutKey, SpellNewKeys, SpellOne, SpellSized, keys_of, put_key_p2, putting_keys, sent_under};
-ghost use Rattle.script_lines.specs.Reads.{Reads};
+ghost use Rattle.script_lines.specs.Words.{Reads, left};
 ghost use Rattle.script_lines.specs.Send.{plain_of};
-ghost use Rattle.script_lines.specs.Words.{left};
 
 use crate::key_field::push_key_field;
 use crate::keys::{OfSize, Trio, three_keys};

@@ -1,8 +1,7 @@
 //! The AID to select (GlobalPlatform Card Specification 2.3.1, 11.9).
 
-ghost use Rattle.script_lines.specs.Reads.{Reads};
+ghost use Rattle.script_lines.specs.Words.{Reads, left};
 ghost use Rattle.script_lines.specs.Select.{SaysSelect};
-ghost use Rattle.script_lines.specs.Words.{left};
 
 use crate::values::aid;
 use crate::words::Words;

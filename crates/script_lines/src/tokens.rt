@@ -2,10 +2,9 @@
 
 ghost use Rattle.std.specs.Prelude.{◌≡◌, ◌≤◌, length};
 ghost use Rattle.tokens_receipts.specs.Token as approved;
-ghost use Rattle.script_lines.specs.Reads.{Reads};
+ghost use Rattle.script_lines.specs.Words.{Reads, left};
 ghost use Rattle.script_lines.specs.TokenKey.{SaysTokens};
 ghost use Rattle.script_lines.specs.Tokens.{key_of, token_made};
-ghost use Rattle.script_lines.specs.Words.{left};
 
 use crate::keys::{Key, OfSize, key};
 use crate::words::Words;

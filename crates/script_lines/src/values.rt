@@ -1,8 +1,7 @@
 //! The values of words in hexadecimal digits (this profile's own).
 
 ghost use Rattle.std.specs.Prelude.{◌≡◌, ℕ, List, length, MatchOption};
-ghost use Rattle.script_lines.specs.Reads.{Reads};
-ghost use Rattle.script_lines.specs.Values.{SpellsAid, SpellsByte, SpellsLevel, SpellsSome, SpellsStatus, SpellsUpTo};
+ghost use Rattle.script_lines.specs.Words.{Reads, SpellsAid, SpellsByte, SpellsLevel, SpellsSome, SpellsStatus, SpellsUpTo};
 
 use apdu_core::Status;
 use arrayvec::ArrayVec;
@@ -19,7 +18,7 @@ fn decode(word: &[u8], room: &mut [u8]) -> Option<()>
 }
 
 /// `N` bytes.
-#[tactic(auto, unfolding(crate::specs::Values::SpellsSome))]
+#[tactic(auto, unfolding(crate::specs::Words::SpellsSome))]
 pub fn array<const N: usize>(word: &[u8]) -> Option<[u8; N]>
     ensures { Reads (SpellsSome N word.now) result }
 {
@@ -29,7 +28,7 @@ pub fn array<const N: usize>(word: &[u8]) -> Option<[u8; N]>
 }
 
 /// One byte at least, and at most `N`.
-#[tactic(auto, unfolding(crate::specs::Values::SpellsSome, crate::specs::Values::SpellsUpTo))]
+#[tactic(auto, unfolding(crate::specs::Words::SpellsSome, crate::specs::Words::SpellsUpTo))]
 pub fn bytes<const N: usize>(word: &[u8]) -> Option<ArrayVec<u8, N>>
     ensures { Reads (λ bytes. SpellsUpTo N word.now bytes.items) result }
 {
@@ -45,7 +44,7 @@ pub fn bytes<const N: usize>(word: &[u8]) -> Option<ArrayVec<u8, N>>
 }
 
 /// The byte that two digits spell.
-#[tactic(auto, unfolding(crate::specs::Values::SpellsSome, crate::specs::Values::SpellsByte))]
+#[tactic(auto, unfolding(crate::specs::Words::SpellsSome, crate::specs::Words::SpellsByte))]
 pub fn byte(word: &[u8]) -> Option<u8>
     ensures { Reads (SpellsByte word.now) result }
 {
@@ -56,7 +55,7 @@ pub fn byte(word: &[u8]) -> Option<u8>
 }
 
 /// The security level whose code two digits spell.
-#[tactic(auto, unfolding(crate::specs::Values::SpellsByte))]
+#[tactic(auto, unfolding(crate::specs::Words::SpellsByte))]
 pub fn level(word: &[u8]) -> Option<Level>
     ensures { Reads (SpellsLevel word.now) result }
 {
@@ -65,7 +64,7 @@ pub fn level(word: &[u8]) -> Option<Level>
 }
 
 /// The status word that four digits spell.
-#[tactic(auto, unfolding(crate::specs::Values::SpellsStatus, crate::specs::Values::SpellsSome))]
+#[tactic(auto, unfolding(crate::specs::Words::SpellsStatus, crate::specs::Words::SpellsSome))]
 pub fn status(word: &[u8]) -> Option<Status>
     ensures { Reads (SpellsStatus word.now) result }
 {
@@ -74,7 +73,7 @@ pub fn status(word: &[u8]) -> Option<Status>
 }
 
 /// An AID.
-#[tactic(auto, unfolding(crate::specs::Values::SpellsAid, crate::specs::Values::SpellsUpTo))]
+#[tactic(auto, unfolding(crate::specs::Words::SpellsAid, crate::specs::Words::SpellsUpTo))]
 pub fn aid(word: &[u8]) -> Option<Aid>
     ensures { Reads (SpellsAid word.now) result }
 {

@@ -2,10 +2,9 @@
 use Rattle.std.proofs.Common.{◌≡◌, ◌⊎◌, ℕ, refl, inl, inr}
 use Rattle.std.specs.Prelude.{◌↔◌, List, Result, Err}
 use Rattle.script_tool.specs.HostLines.{is_difference}
-use Rattle.script_tool.specs.Kind.{kind_of}
+use Rattle.script_tool.specs.Printed.{kind_of, Printed, Nothing, Reply, Opened, Cryptogram, Said, Differs}
 use Rattle.script_tool.specs.Kinds.{is_difference_kind}
 use Rattle.script_lines.specs.Line.{HasNoForm, SaysLine}
-use Rattle.script_tool.specs.Printed.{Printed, Nothing, Reply, Opened, Cryptogram, Said, Differs}
 use Rattle.script_lines.specs.declared.line.ScriptLine.{ScriptLine}
 use Rattle.script_tool.specs.declared.played.Played as the_played
 use Rattle.script_tool.specs.declared.played.StepStop.{StepStop}

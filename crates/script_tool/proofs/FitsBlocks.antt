@@ -5,8 +5,7 @@ use Rattle.script_lines.specs.Exchange.{SaysExchange}
 use Rattle.script_lines.specs.Line.{SaysLine, SaysQuietly}
 use Rattle.script_lines.specs.Load.{SaysContent, SaysLoad, SpellsCount, content_bytes}
 use Rattle.script_tool.specs.Play.{FitsBlocks}
-use Rattle.script_lines.specs.Values.{SpellsUpTo}
-use Rattle.script_lines.specs.Words.{words_of}
+use Rattle.script_lines.specs.Words.{SpellsUpTo, words_of}
 use Rattle.script_lines.specs.declared.line.ScriptLine.{ScriptLine}
 use Rattle.script_lines.specs.declared.line.ScriptLine.TheVariants as line
 use Rattle.script_lines.specs.declared.exchange.Exchange as the_type

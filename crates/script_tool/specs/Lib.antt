@@ -5,17 +5,14 @@ pub mod HostLines
 pub mod InPlain
 pub mod InSession
 pub mod Kept
-pub mod KeptSession
-pub mod Kind
+pub mod Printed
 pub mod Kinds
-pub mod Lead
 pub mod Link
 pub mod Loading
 pub mod Once
 pub mod Opening
 pub mod Play
 pub mod Played
-pub mod Printed
 pub mod Step
 pub mod Talk
 pub use Rattle.script_lines.specs.Channel
@@ -35,7 +32,6 @@ pub use Rattle.script_lines.specs.Open
 pub use Rattle.script_lines.specs.PutKey
 pub use Rattle.script_lines.specs.Quiet
 pub use Rattle.script_lines.specs.Raw
-pub use Rattle.script_lines.specs.Reads
 pub use Rattle.script_lines.specs.Round
 pub use Rattle.script_lines.specs.Select
 pub use Rattle.script_lines.specs.Selectable
@@ -43,7 +39,6 @@ pub use Rattle.script_lines.specs.Send
 pub use Rattle.script_lines.specs.Store
 pub use Rattle.script_lines.specs.TokenKey
 pub use Rattle.script_lines.specs.Tokens
-pub use Rattle.script_lines.specs.Values
 pub use Rattle.script_lines.specs.Verb
 pub use Rattle.script_lines.specs.Words
 pub use Rattle.script_lines.specs.Workload

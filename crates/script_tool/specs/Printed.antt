@@ -3,8 +3,10 @@ use Rattle.std.specs.Prelude.{ℕ, List, [], ◌++◌, codes, Option, None, Some
 use Rattle.apdu_core.specs.Reply.{status_bytes}
 use Rattle.apdu_core.specs.declared.reply.Status.{Status}
 use Rattle.hex.specs.Hex.{encode_lower}
+use Rattle.script_tool.specs.declared.played.Played.TheVariants.{Quiet, Answer, Note, WantDiffers}
 use Rattle.script_tool.specs.declared.word.Word.{Word}
 use Rattle.script_tool.specs.declared.word.Word.TheVariants.{NoSession, TooLong, Short, Mac, Padding}
+use Rattle.script_tool.specs.declared.played.Played as the_played
 
 -- Nothing; the reply to a command in plain; the sequence counter and the status of EXTERNAL AUTHENTICATE; the counter, where the card
 -- cryptogram is wrong; a word; a status that is wanted, and the one that was printed last.
@@ -49,3 +51,13 @@ abbrev pub status_printed : Printed → Option Status
 status_printed (Reply body status) = Some (record { 0 = status })
 status_printed (Opened counter status) = Some (record { 0 = status })
 status_printed _ = None
+
+-- What kind of answer a line prints.
+
+abbrev pub kind_of : Printed → the_played.Played
+kind_of Nothing = Quiet
+kind_of (Reply body status) = Answer (record { 0 = status })
+kind_of (Opened counter status) = Answer (record { 0 = status })
+kind_of (Cryptogram counter) = Note
+kind_of (Said word) = Note
+kind_of (Differs want got) = WantDiffers

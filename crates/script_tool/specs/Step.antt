@@ -2,10 +2,9 @@
 use Rattle.std.specs.Prelude.{◌≡◌, ℕ, List, Result, Ok, Err}
 use Rattle.script_tool.specs.Host.{Host}
 use Rattle.script_tool.specs.Kept.{RepresentsHost}
-use Rattle.script_tool.specs.Kind.{kind_of}
+use Rattle.script_tool.specs.Printed.{kind_of, Printed, printed_text, status_printed}
 use Rattle.script_tool.specs.Play.{playing, remembering}
 use Rattle.script_tool.specs.Played.{IsBroken, Leads}
-use Rattle.script_tool.specs.Printed.{Printed, printed_text, status_printed}
 use Rattle.script_lines.specs.Quiet.{is_quiet}
 use Rattle.script_tool.specs.Talk.{Ends}
 use Rattle.script_tool.specs.declared.host_state.HostState.{HostState}

@@ -1,8 +1,7 @@
 //! Entries and Executable Load Files that come and go on a card. After each change it is committed, and mounted again.
 
 ghost use Rattle.std.specs.Prelude.{◌≡◌, ◌==◌, [], true, IfOk, IsSome, IsTrue};
-ghost use Rattle.card_types.specs.InOrder.{IsInOrder};
-ghost use Rattle.card_types.specs.Slots.{held};
+ghost use Rattle.card_types.specs.Represents.{IsInOrder, held};
 ghost use Rattle.registry.specs.Removing.{IsNoDomain, IsUnloaded};
 
 use bitflags::Flags;

@@ -3,10 +3,8 @@
 ghost use Rattle.std.specs.Prelude.{◌≡◌, ◌≤◌};
 ghost use Rattle.std.specs.List.{flat_map};
 ghost use Rattle.card_types.proofs.KeyNames.{counter_order_total};
-ghost use Rattle.card_types.specs.Ascending.{counter_order};
-ghost use Rattle.card_types.specs.InOrder.{IsInOrder};
-ghost use Rattle.card_types.specs.Registry.{Counter};
-ghost use Rattle.card_types.specs.Represents.{counter_of, keeps_counter};
+ghost use Rattle.card_types.specs.Registry.{counter_order, Counter};
+ghost use Rattle.card_types.specs.Represents.{IsInOrder, counter_of, keeps_counter};
 ghost use Rattle.card_types.specs.declared.limits.TheConstants.{COUNTER_LIMIT};
 ghost use Rattle.faults.specs.Faults.{HasCause};
 ghost use Rattle.gp_tool.specs.Listing.{WritesOf};

@@ -3,10 +3,8 @@
 ghost use Rattle.std.specs.Prelude.{◌≡◌, true};
 ghost use Rattle.std.specs.List.{flat_map};
 ghost use Rattle.card_types.proofs.KeyNames.{key_order_total};
-ghost use Rattle.card_types.specs.Ascending.{key_order};
-ghost use Rattle.card_types.specs.InOrder.{IsInOrder};
-ghost use Rattle.card_types.specs.Registry.{Key};
-ghost use Rattle.card_types.specs.Represents.{key_of};
+ghost use Rattle.card_types.specs.Registry.{key_order, Key};
+ghost use Rattle.card_types.specs.Represents.{IsInOrder, key_of};
 ghost use Rattle.faults.specs.Faults.{HasCause};
 ghost use Rattle.gp_tool.specs.Listing.{WritesOf};
 ghost use Rattle.gp_tool.specs.Show.{key_line};

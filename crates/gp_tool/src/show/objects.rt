@@ -3,10 +3,8 @@
 ghost use Rattle.std.specs.Prelude.{◌≡◌, true};
 ghost use Rattle.std.specs.List.{flat_map};
 ghost use Rattle.card_types.proofs.ObjectNames.{object_order_total};
-ghost use Rattle.card_types.specs.Ascending.{object_order};
-ghost use Rattle.card_types.specs.InOrder.{IsInOrder};
-ghost use Rattle.card_types.specs.Registry.{Object as NamedObject};
-ghost use Rattle.card_types.specs.Represents.{object_of};
+ghost use Rattle.card_types.specs.Registry.{object_order, Object as NamedObject};
+ghost use Rattle.card_types.specs.Represents.{IsInOrder, object_of};
 ghost use Rattle.faults.specs.Faults.{HasCause};
 ghost use Rattle.gp_tool.specs.Listing.{WritesOf};
 ghost use Rattle.gp_tool.specs.Show.{object_line};

@@ -2,8 +2,7 @@ use Rattle.std.proofs.Common.{◌≡◌, List, ℕ, Some, refl, subst, sym}
 use Rattle.std.specs.Prelude.{◌↔◌, IsTrue}
 use Rattle.card_types.proofs.Domains.{domain_aid_is}
 use Rattle.card_types.proofs.EntryNames.{entry_in_slot}
-use Rattle.card_types.specs.Represents.{domain_aid, entry_of}
-use Rattle.card_types.specs.Slots.{held}
+use Rattle.card_types.specs.Represents.{domain_aid, entry_of, held}
 use Rattle.policy_machine.specs.EntryStatus.{managed_entry_status}
 use Rattle.policy_machine.specs.ManagedForm.{command_form}
 use Rattle.access_matrix.specs.Passing.{IsAccepted}

@@ -1,5 +1,5 @@
 use Rattle.std.proofs.Common.{◌≡◌, Some}
-use Rattle.card_types.specs.Slots.{held}
+use Rattle.card_types.specs.Represents.{held}
 use Rattle.access_matrix.proofs.AidsInSlots.{entry_has_aid}
 use Rattle.access_matrix.proofs.slots.entry_aid.Goals as goal
 

@@ -1,6 +1,6 @@
 use Rattle.std.proofs.Common.{ℕ, ◌<◌}
 use Rattle.card_check.specs.CardSlots.{HasOtherLength}
-use Rattle.card_types.specs.Slots.{held}
+use Rattle.card_types.specs.Represents.{held}
 use Rattle.card_check.proofs.keys.has_length_of_set.Given as goal
 
 -- no slot before has a key of another length

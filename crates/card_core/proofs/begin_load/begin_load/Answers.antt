@@ -3,8 +3,7 @@ use Rattle.std.specs.Prelude.{unwrap_or}
 use Rattle.card_types.specs.Represents.{domain_aid}
 use Rattle.policy_machine.proofs.Judging.{IsListed, does_so, judged}
 use Rattle.policy_machine.specs.InstallLoad.{file_domain_for, install_load, load_begun}
-use Rattle.policy_machine.specs.State.{Effect, State}
-use Rattle.policy_machine.specs.Volatile.{LoadSession, with_load}
+use Rattle.policy_machine.specs.State.{Effect, State, LoadSession, with_load}
 use Rattle.policy_slots.specs.StateShown.{RepresentsState}
 use Rattle.policy_slots.specs.declared.live.Live.{Live}
 use Rattle.load_session.specs.Session.{RepresentsLoad}

@@ -3,10 +3,8 @@ use Rattle.std.specs.Option.{option_copied, option_map}
 use Rattle.std.proofs.lemmas.Option.{MatchOption-at_some}
 use Rattle.card_types.proofs.Domains.{well_entry}
 use Rattle.card_types.proofs.LifeChanges.{receipts_keep}
-use Rattle.card_types.specs.InOrder.{IsInOrder}
+use Rattle.card_types.specs.Represents.{IsInOrder, domain_aid, held}
 use Rattle.card_types.specs.RegistryChange.{with_receipts}
-use Rattle.card_types.specs.Represents.{domain_aid}
-use Rattle.card_types.specs.Slots.{held}
 use Rattle.card_types.specs.declared.limits.TheConstants.{RECEIPT_LIMIT}
 use Rattle.card_types.specs.declared.tables.Entry.{Entry}
 use Rattle.card_types.specs.declared.tables.Tables.{Tables}

@@ -1,6 +1,6 @@
 use Rattle.std.proofs.Common.{rules, ◌≡◌, Some}
 use Rattle.card_types.proofs.SetNames.{key_length_in_slot}
-use Rattle.card_types.specs.Slots.{held}
+use Rattle.card_types.specs.Represents.{held}
 use Rattle.card_core.proofs.confirm.write_receipt.Goals as goal
 
 pub write_under-requires-clause-length : goal.write_under-requires-clause-length

@@ -1,6 +1,6 @@
 use Rattle.std.proofs.Common.{rules, ◌≡◌, refl, subst, ◌∙◌}
 use Rattle.card_core.proofs.Offered.{offer_here}
-use Rattle.card_core.specs.SecureChannels.{RepresentsSecureChannel}
+use Rattle.card_core.specs.Kept.{RepresentsSecureChannel}
 use Rattle.card_core.specs.Offers.{secure_channel_for}
 use Rattle.card_core.specs.declared.channel_session.ChannelSession.{ChannelSession}
 use Rattle.card_core.specs.declared.channel_session.ChannelSession.TheVariants.{Offered}

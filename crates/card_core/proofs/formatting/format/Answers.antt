@@ -9,7 +9,7 @@ use Rattle.page_journal.specs.Pages.{IsLoadPage}
 use Rattle.card_types.proofs.FactoryRegistry.{factory_layout, factory_says}
 use Rattle.card_types.proofs.FactoryWell.{factory_well}
 use Rattle.card_types.specs.Factory.{IsFactory, IsFactoryKey, factory_entry, factory_file, factory_registry}
-use Rattle.card_types.specs.Slots.{held}
+use Rattle.card_types.specs.Represents.{held}
 use Rattle.card_types.specs.declared.card_life.CardLife.TheVariants.{OpReady}
 use Rattle.card_types.specs.declared.tables.Entry.{Entry}
 use Rattle.card_types.specs.declared.tables.KeyRec.{KeyRec}

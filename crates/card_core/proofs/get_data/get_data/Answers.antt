@@ -3,7 +3,7 @@ use Rattle.bertlv.specs.Spelling.{Spelling}
 use Rattle.policy_machine.specs.declared.rule.Rule.TheVariants.{GD}
 use Rattle.policy_machine.proofs.GetDataLaws.{get_passes, get_refused}
 use Rattle.policy_machine.proofs.Judging.{does_so}
-use Rattle.policy_machine.specs.Volatile.{selected_on}
+use Rattle.policy_machine.specs.State.{selected_on}
 use Rattle.policy_machine.specs.GetData.{get_data}
 use Rattle.policy_machine.specs.declared.channels.TheConstants.{CHANNELS}
 use Rattle.policy_rules.proofs.DataAsked.{asked_for, asks}

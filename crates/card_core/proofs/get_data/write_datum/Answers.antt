@@ -1,8 +1,7 @@
 use Rattle.std.proofs.Common.{◌≡◌, ◌++◌, ℕ, List, [], None, Some, sym, ap, subst, ◌∙◌, inl}
 use Rattle.bertlv.specs.Spelling.{Appends, Spelling}
-use Rattle.card_types.specs.Least.{IsLeast}
-use Rattle.card_types.specs.Represents.{domain_aid}
-use Rattle.card_types.specs.Slots.{held}
+use Rattle.card_types.specs.Search.{IsLeast}
+use Rattle.card_types.specs.Represents.{domain_aid, held}
 use Rattle.policy_machine.specs.GetData.{IsKeyInformation}
 use Rattle.policy_slots.specs.KeyOrder.{follows, name_order}
 use Rattle.card_core.proofs.get_data.write_datum.Goals as goal

@@ -1,7 +1,7 @@
 use Rattle.std.proofs.Common.{ℕ, ◌-◌, ◌≤◌, List, length}
 use Rattle.policy_machine.specs.Admission.{Admitted}
 use Rattle.policy_rules.specs.GetStatusRequests.{IsFirstShown, IsListOf}
-use Rattle.policy_slots.specs.Acting.{ActsIn}
+use Rattle.policy_slots.specs.StateShown.{ActsIn}
 use Rattle.card_core.proofs.StatusShown.{HasShown}
 use Rattle.card_core.proofs.get_status.show_part.Given as goal
 

@@ -1,6 +1,6 @@
 use Rattle.std.proofs.Common.{subst, sym}
 use Rattle.card_core.proofs.Cards.{in_order}
-use Rattle.card_types.specs.InOrder.{IsInOrder}
+use Rattle.card_types.specs.Represents.{IsInOrder}
 use Rattle.card_core.proofs.judging.judge.Goals as goal
 
 pub judge_request-requires-clause-in_order : goal.judge_request-requires-clause-in_order

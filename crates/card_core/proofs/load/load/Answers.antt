@@ -1,6 +1,6 @@
 use Rattle.std.proofs.Common.{rules, ◌≡◌, ◌≤◌, ◌+◌, ℕ, List, [], ◌∷◌, ◌++◌, Bool, true, Option, None, Some, sym, ap, subst, ◌∙◌}
 use Rattle.std.specs.Prelude.{drop}
-use Rattle.card_types.specs.InOrder.{IsInOrder}
+use Rattle.card_types.specs.Represents.{IsInOrder}
 use Rattle.card_types.specs.Well.{pages_of}
 use Rattle.card_types.specs.declared.limits.TheConstants.{LOAD_PAGES}
 use Rattle.load_session.specs.Loaded.{loaded}

@@ -1,7 +1,7 @@
 use Rattle.std.proofs.Common.{rules, ◌≡◌, ◌≤◌, ℕ, List, [], ◌∷◌, Option, Some, length, sym, ap, subst, ◌∙◌}
 use Rattle.card_check.specs.LoadPages.{HasPageNumbers}
 use Rattle.card_types.proofs.Domains.{domain_aid_is}
-use Rattle.card_types.specs.Slots.{held}
+use Rattle.card_types.specs.Represents.{held}
 use Rattle.card_types.specs.declared.tables.Entry.{Entry}
 use Rattle.card_types.specs.declared.tables.Tables.{Tables}
 use Rattle.card_core.proofs.Cards.{in_order}

@@ -10,7 +10,7 @@ use Rattle.card_core.proofs.Acting.{acts_for, held_there, low, managed_done}
 use Rattle.card_core.proofs.LoadsKept.{kept_loading, loads_same, not_loading}
 use Rattle.card_core.proofs.Passed.{read_at}
 use Rattle.card_core.specs.Offers.{secure_channel_for}
-use Rattle.card_core.specs.SecureChannels.{IsInSession, RepresentsSecureChannel}
+use Rattle.card_core.specs.Kept.{IsInSession, RepresentsSecureChannel}
 use Rattle.card_core.specs.declared.channel_session.ChannelSession.{ChannelSession}
 use Rattle.card_core.proofs.management.manage.Goals as goal
 

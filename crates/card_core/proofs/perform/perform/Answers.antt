@@ -1,6 +1,6 @@
 use Rattle.std.proofs.Common.{◌≡◌, arith, Option, ℕ, ◌<◌, List, refl, sym, ap, subst}
 use Rattle.std.specs.Prelude.{Contains, slice_set}
-use Rattle.card_types.specs.InOrder.{IsInOrder}
+use Rattle.card_types.specs.Represents.{IsInOrder, domain_aid}
 use Rattle.policy_machine.specs.Classes.{changing}
 use Rattle.policy_machine.specs.declared.channels.TheConstants.{CHANNELS}
 use Rattle.policy_rules.specs.Requests.{IsRequestOf, IsWellFormed, form_in}
@@ -12,7 +12,6 @@ use Rattle.card_core.specs.Kept.{kept_of}
 use Rattle.card_core.proofs.FreePages.{files_free}
 use Rattle.card_core.proofs.LoadCarried.{begin_left, load_left}
 use Rattle.card_core.proofs.LoadsKept.{over_loading}
-use Rattle.card_types.specs.Represents.{domain_aid}
 use Rattle.card_types.specs.declared.tables.Entry.{Entry}
 use Rattle.load_session.specs.Loaded.{loaded}
 use Rattle.load_session.specs.Session.{load_slot}

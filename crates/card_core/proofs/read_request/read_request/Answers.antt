@@ -13,7 +13,7 @@ use Rattle.policy_machine.specs.declared.rule.Rule.TheVariants.{EA}
 use Rattle.policy_rules.specs.Requests.{Decodes, IsRequestOf, form_in}
 use Rattle.policy_rules.specs.declared.request.Request.{Request}
 use Rattle.card_core.proofs.Offered.{is_offer, no_offer}
-use Rattle.card_core.specs.SecureChannels.{IsOffered}
+use Rattle.card_core.specs.Kept.{IsOffered}
 use Rattle.card_core.proofs.read_request.read_request.Goals as goal
 
 pub returns-in_err-judge_offer-clause-refused : goal.returns-in_err-judge_offer-clause-refused

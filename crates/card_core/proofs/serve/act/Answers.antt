@@ -15,7 +15,7 @@ use Rattle.card_core.specs.Serves.{IsAsked, IsPassed}
 use Rattle.policy_machine.specs.declared.channels.TheConstants.{CHANNELS}
 use Rattle.card_core.specs.Offers.{secure_channel_for}
 use Rattle.card_core.specs.Ready.{IsReady}
-use Rattle.card_core.specs.SecureChannels.{IsInSession, RepresentsSecureChannel, without_offer_held}
+use Rattle.card_core.specs.Kept.{IsInSession, RepresentsSecureChannel, without_offer_held}
 use Rattle.card_core.specs.declared.channel_session.ChannelSession.{ChannelSession}
 use Rattle.card_core.specs.declared.channel_session.ChannelSession.TheVariants as held
 use Rattle.card_core.proofs.serve.act.Goals as goal

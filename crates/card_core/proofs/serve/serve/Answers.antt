@@ -8,8 +8,7 @@ use Rattle.policy_machine.specs.declared.channels.TheConstants.{CHANNELS}
 use Rattle.policy_slots.specs.StateShown.{RepresentsState}
 use Rattle.card_core.proofs.Coming.{closed_over, has_come, opened_still, passed_over, still_opened, still_secured, written_on}
 use Rattle.card_core.proofs.Serving.{rejected}
-use Rattle.card_core.specs.Kept.{kept_of}
-use Rattle.card_core.specs.SecureChannels.{IsInSession}
+use Rattle.card_core.specs.Kept.{kept_of, IsInSession}
 use Rattle.card_core.specs.Serves.{ServesLoading}
 use Rattle.card_core.specs.declared.channel_session.ChannelSession.{ChannelSession}
 use Rattle.card_core.proofs.serve.serve.Goals as goal

@@ -1,5 +1,5 @@
 use Rattle.std.proofs.Common.{inr, arith, rules}
-use Rattle.card_types.specs.First.{IsFirstFree}
+use Rattle.card_types.specs.Search.{IsFirstFree}
 use Rattle.card_types.proofs.Room.{free_found}
 use Rattle.card_core.proofs.ObjectSlots.{none_tagged}
 use Rattle.card_core.proofs.store_data.slot_for.Goals as goal

@@ -1,8 +1,8 @@
 use Rattle.std.proofs.Common.{◌≡◌, ℕ, List, Option, None, Some, refl}
 use Rattle.std.specs.Option.{option_map}
-use Rattle.card_types.specs.AidOrder.{same_aid}
-use Rattle.card_types.specs.Least.{NoneFits}
-use Rattle.card_types.specs.Slots.{held}
+use Rattle.card_types.specs.Aid.{same_aid}
+use Rattle.card_types.specs.Search.{NoneFits}
+use Rattle.card_types.specs.Represents.{held}
 use Rattle.card_types.specs.declared.found.Found.TheVariants.{Entry, File}
 use Rattle.card_types.proofs.SameAid.{same_aid_decides}
 use Rattle.card_types.proofs.found.find.Goals as goal

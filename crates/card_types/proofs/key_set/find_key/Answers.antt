@@ -2,8 +2,8 @@ use Rattle.std.proofs.Common.{◌≡◌, ℕ, List, Option, None, Some, refl}
 use Rattle.std.specs.Prelude.{IfNone, MatchOption}
 use Rattle.std.proofs.lemmas.Bool.{eq-eqb}
 use Rattle.card_types.specs.KeySets.{HasKey, IsKeyOf, is_key}
-use Rattle.card_types.specs.Least.{NoneFits}
-use Rattle.card_types.specs.Slots.{held}
+use Rattle.card_types.specs.Search.{NoneFits}
+use Rattle.card_types.specs.Represents.{held}
 use Rattle.card_types.specs.declared.tables.KeyRec.{KeyRec}
 use Rattle.card_types.proofs.key_set.find_key.Goals as goal
 

@@ -1,5 +1,5 @@
 use Rattle.std.proofs.Common.{◌≢◌, ℕ, ◌<◌, None}
-use Rattle.card_types.specs.Slots.{held}
+use Rattle.card_types.specs.Represents.{held}
 use Rattle.card_types.proofs.search.first_free.Given as goal
 
 abbrev pub invariant-loop-slot : goal.invariant-loop-slot

@@ -1,7 +1,7 @@
 use Rattle.std.proofs.Common.{rules, ◌≡◌, None, Option, Some, subst, sym, ◌∙◌}
 use Rattle.std.specs.Prelude.{slice_index_or}
 use Rattle.policy_machine.proofs.Judging.{by_err}
-use Rattle.policy_machine.specs.FirstFailing.{IsFirst}
+use Rattle.policy_machine.specs.Refusal.{IsFirst}
 use Rattle.policy_machine.specs.Load.{LoadFails, last_rules}
 use Rattle.content_rules.proofs.LoadNamed.{named_is}
 use Rattle.content_rules.specs.LoadFound.{IsForLast}

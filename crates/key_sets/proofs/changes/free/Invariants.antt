@@ -1,5 +1,5 @@
 use Rattle.std.proofs.Common.{◌≡◌, ℕ, ◌<◌, false, length}
-use Rattle.card_types.specs.Slots.{held}
+use Rattle.card_types.specs.Represents.{held}
 use Rattle.card_types.specs.declared.limits.TheConstants.{KEYS}
 use Rattle.key_rules.specs.InSlots.{holds_one_of}
 use Rattle.key_rules.specs.Staying.{staying}

@@ -1,7 +1,6 @@
 use Rattle.std.proofs.Common.{◌≡◌, ◌<◌, List, Option, None, length, ap, subst, arith, rules}
-use Rattle.card_types.specs.First.{IsFirstFree}
-use Rattle.card_types.specs.Represents.{used}
-use Rattle.card_types.specs.Slots.{held}
+use Rattle.card_types.specs.Search.{IsFirstFree}
+use Rattle.card_types.specs.Represents.{used, held}
 use Rattle.card_types.specs.declared.tables.KeyRec.{KeyRec}
 use Rattle.card_types.proofs.Room.{free_found}
 use Rattle.key_rules.proofs.Stays.{put_in}

@@ -1,7 +1,7 @@
 use Rattle.std.proofs.Common.{◌≡◌, ◌-◌, None}
 use Rattle.io_edge.specs.Lines.{IsWithin}
 use Rattle.line_runs.specs.Ends.{counted}
-use Rattle.line_runs.specs.Going.{Going}
+use Rattle.line_runs.specs.Turn.{Going}
 use Rattle.line_runs.specs.Outside.{outside}
 use Rattle.line_runs.proofs.run.take_lines.Given as goal
 

@@ -8,7 +8,7 @@ use Rattle.policy_machine.specs.CardStatus.{managed_card_status}
 use Rattle.policy_machine.specs.DeleteObject.{managed_delete_object}
 use Rattle.policy_machine.specs.EntryStatus.{managed_entry_status}
 use Rattle.policy_machine.specs.Extradition.{managed_extradition}
-use Rattle.policy_machine.specs.FirstFailing.{IsFirst}
+use Rattle.policy_machine.specs.Refusal.{IsFirst}
 use Rattle.policy_machine.specs.InstallApplication.{managed_install}
 use Rattle.policy_machine.specs.Load.{LoadFails, front_rules}
 use Rattle.policy_machine.specs.MakeSelectable.{managed_selectable}
@@ -17,12 +17,10 @@ use Rattle.policy_machine.specs.Admission.{Admitted}
 use Rattle.policy_machine.specs.Sound.{IsSound}
 use Rattle.content_rules.specs.LoadFound.{IsForLoad}
 use Rattle.policy_rules.specs.SetStatusRequests.{IsCardStatusOf}
-use Rattle.policy_slots.specs.Acting.{ActsIn}
-use Rattle.policy_slots.specs.KeptPlaces.{place_of}
-use Rattle.policy_slots.specs.StateShown.{RepresentsState}
+use Rattle.policy_slots.specs.StateShown.{ActsIn, place_of, RepresentsState}
 use Rattle.card_types.specs.Represents.{Represents}
 use Rattle.card_types.specs.Well.{Well}
-use Rattle.policy_machine.specs.Volatile.{channel_at, place_in, selected_on}
+use Rattle.policy_machine.specs.State.{channel_at, place_in, selected_on}
 use Rattle.policy_machine.proofs.GetDataLaws.{get_passes, get_refused}
 use Rattle.policy_machine.proofs.InitializeUpdateLaws.{offer_judged}
 use Rattle.policy_machine.proofs.Judging.{by_err, judged_by}

@@ -1,5 +1,5 @@
 use Rattle.std.proofs.Common.{◌↔◌, length}
-use Rattle.policy_machine.specs.ObjectsFound.{AreObjects}
+use Rattle.policy_machine.specs.DataObjects.{AreObjects}
 use Rattle.policy_rules.proofs.store_data.are_objects.Given as goal
 
 abbrev pub invariant-loop-rest : goal.invariant-loop-rest

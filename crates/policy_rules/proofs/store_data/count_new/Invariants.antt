@@ -1,6 +1,6 @@
 use Rattle.std.proofs.Common.{◌≡◌, ◌+◌, ◌≤◌, List, length}
 use Rattle.bertlv.specs.Spelling.{AreElements, Element}
-use Rattle.policy_machine.specs.ObjectsFound.{new_tags}
+use Rattle.policy_machine.specs.DataObjects.{new_tags}
 use Rattle.policy_slots.specs.ObjectsHeld.{has_object_in}
 use Rattle.policy_rules.proofs.store_data.count_new.Given as goal
 

@@ -1,8 +1,7 @@
 use Rattle.std.proofs.Common.{rules, ◌≡◌, ◌↔◌, inl, inr, Some, subst, sym, ◌∙◌}
 use Rattle.std.specs.Prelude.{IsTrue}
 use Rattle.card_types.proofs.DomainLines.{line_in_slots}
-use Rattle.card_types.specs.Represents.{file_of}
-use Rattle.card_types.specs.Slots.{held}
+use Rattle.card_types.specs.Represents.{file_of, held}
 use Rattle.card_types.specs.declared.tables.LoadFile.{LoadFile}
 use Rattle.policy_machine.specs.Charge.{IsFileInCharge}
 use Rattle.policy_machine.specs.Management.{acting}

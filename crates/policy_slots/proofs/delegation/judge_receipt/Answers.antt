@@ -1,8 +1,7 @@
 use Rattle.std.proofs.Common.{rules, ◌≡◌, ◌≢◌, Option, Some, sym, subst}
 use Rattle.std.specs.Prelude.{MatchOption}
 use Rattle.card_types.specs.Registry as registry
-use Rattle.card_types.specs.Represents.{domain_aid, key_of}
-use Rattle.card_types.specs.Slots.{held}
+use Rattle.card_types.specs.Represents.{domain_aid, key_of, held}
 use Rattle.card_types.specs.declared.limits.TheConstants.{RECEIPT_LIMIT}
 use Rattle.card_types.specs.declared.tables.Entry.{Entry}
 use Rattle.policy_slots.proofs.NearestHolder.{slot_named}

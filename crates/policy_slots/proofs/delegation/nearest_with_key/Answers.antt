@@ -4,8 +4,7 @@ use Rattle.card_types.proofs.DomainLines.{line_in_slots}
 use Rattle.card_types.proofs.SetNames.{key_length_in_slot}
 use Rattle.card_types.specs.KeySets.{IsKeyOf}
 use Rattle.card_types.specs.Privileges.{bits_of}
-use Rattle.card_types.specs.Represents.{domain_aid, domain_slot, key_of}
-use Rattle.card_types.specs.Slots.{held}
+use Rattle.card_types.specs.Represents.{domain_aid, domain_slot, key_of, held}
 use Rattle.card_types.specs.declared.tables.KeyRec.{KeyRec}
 use Rattle.domain_tree.specs.Above.{IsFirstAbove, NoneAbove}
 use Rattle.policy_machine.specs.Delegation.{IsNearestHolder, NoHolder}

@@ -2,8 +2,7 @@ use Rattle.std.proofs.Common.{◌≡◌, ◌<◌, ◌++◌, ℕ, List, Option, l
 use Rattle.std.specs.Prelude.{All}
 use Rattle.std.specs.Vec.{with_items}
 use Rattle.std.proofs.lemmas.List.{take-append-le, take_all}
-use Rattle.card_types.specs.Represents.{used}
-use Rattle.card_types.specs.Slots.{held}
+use Rattle.card_types.specs.Represents.{used, held}
 use Rattle.card_types.specs.declared.limits.TheConstants.{ENTRIES, FILES, KEYS, OBJECTS}
 use Rattle.card_types.specs.declared.tables.Tables.{Tables}
 use Rattle.flash_core.specs.declared.page.Page.{Page}

@@ -1,5 +1,5 @@
 use Rattle.std.proofs.Common.{◌≡◌, ◌+◌, ◌*◌, ◌/◌, below_more, ap, sym, subst, arith}
-use Rattle.card_types.specs.Slots.{held}
+use Rattle.card_types.specs.Represents.{held}
 use Rattle.rec_store.specs.Places.{slot_at}
 use Rattle.rec_store.proofs.slots.page_of.Goals as goal
 

@@ -1,6 +1,6 @@
 use Rattle.std.proofs.Common.{◌≡◌, ◌+◌, ◌*◌, ◌/◌, ◌<◌, ℕ}
 use Rattle.std.specs.Prelude.{IfSome}
-use Rattle.card_types.specs.Slots.{held}
+use Rattle.card_types.specs.Represents.{held}
 use Rattle.rec_store.specs.Places.{slot_at}
 use Rattle.rec_store.proofs.slots.read_page.Given as goal
 

@@ -1,6 +1,6 @@
 use Rattle.std.proofs.Common.{◌*◌, ◌/◌, ◌<◌, ℕ}
 use Rattle.std.specs.Prelude.{IfSome}
-use Rattle.card_types.specs.Slots.{held}
+use Rattle.card_types.specs.Represents.{held}
 use Rattle.rec_store.specs.Reopens.{store_page}
 use Rattle.rec_store.specs.Places.{slot_from}
 use Rattle.rec_store.specs.Reading.{IsRead}

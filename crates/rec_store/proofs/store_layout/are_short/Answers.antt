@@ -1,7 +1,7 @@
 use Rattle.std.proofs.Common.{◌≡◌, None, rules, arith}
 use Rattle.std.specs.Prelude.{IfSome}
 use Rattle.std.proofs.lemmas.List.{get_or_read}
-use Rattle.card_types.specs.Slots.{held}
+use Rattle.card_types.specs.Represents.{held}
 use Rattle.rec_store.specs.StoreLayout.{IsShort}
 use Rattle.rec_store.proofs.Roomy.{of_all, of_slot}
 use Rattle.rec_store.proofs.store_layout.are_short.Goals as goal

@@ -1,6 +1,6 @@
 use Rattle.std.proofs.Common.{refl}
 use Rattle.std.specs.Int.{to_be_bytes, w16}
-use Rattle.script_tool.specs.Values.{SpellsSome}
+use Rattle.script_tool.specs.Words.{SpellsSome}
 use Rattle.receipt_desk.specs.Lines.{SpellsNumber}
 use Rattle.receipt_desk.proofs.line.number.Goals as goal
 

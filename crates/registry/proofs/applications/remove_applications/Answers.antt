@@ -1,5 +1,5 @@
 use Rattle.std.proofs.Common.{ap}
-use Rattle.card_types.specs.Slots.{held}
+use Rattle.card_types.specs.Represents.{held}
 use Rattle.registry.specs.TableLists.{TableLists}
 use Rattle.registry.proofs.Replaced.{thing_of}
 use Rattle.registry.proofs.Unloaded.{applications_removed, unloaded}

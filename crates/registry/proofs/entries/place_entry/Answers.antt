@@ -1,6 +1,6 @@
 use Rattle.std.proofs.Common.{rules, ◌<◌, arith}
-use Rattle.card_types.specs.First.{IsFirstFree}
-use Rattle.card_types.specs.Slots.{held}
+use Rattle.card_types.specs.Search.{IsFirstFree}
+use Rattle.card_types.specs.Represents.{held}
 use Rattle.card_types.specs.declared.limits.TheConstants.{ENTRIES}
 use Rattle.card_types.specs.declared.tables.Tables.{Tables}
 use Rattle.rec_store.specs.Places.{entry_page}

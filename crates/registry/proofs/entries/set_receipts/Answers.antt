@@ -1,7 +1,7 @@
 use Rattle.std.proofs.Common.{◌≡◌, ◌<◌, List, Option, Some, refl, ap, sym, ◌∙◌, arith, rules}
 use Rattle.card_types.proofs.DrawnCounter.{held_within}
 use Rattle.card_types.specs.Registry as registry
-use Rattle.card_types.specs.Slots.{held}
+use Rattle.card_types.specs.Represents.{held}
 use Rattle.card_types.specs.declared.limits.TheConstants.{ENTRIES}
 use Rattle.card_types.specs.declared.tables.Entry.{Entry}
 use Rattle.card_types.specs.declared.tables.Tables.{Tables}

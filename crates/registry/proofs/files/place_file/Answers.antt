@@ -1,5 +1,5 @@
 use Rattle.std.proofs.Common.{rules}
-use Rattle.card_types.specs.First.{IsFirstFree}
+use Rattle.card_types.specs.Search.{IsFirstFree}
 use Rattle.card_types.specs.declared.tables.Tables.{Tables}
 use Rattle.rec_store.specs.Places.{file_page}
 use Rattle.registry.proofs.Added.{file_added, first_free_of}

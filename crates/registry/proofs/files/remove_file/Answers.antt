@@ -1,4 +1,4 @@
-use Rattle.card_types.specs.Slots.{held}
+use Rattle.card_types.specs.Represents.{held}
 use Rattle.rec_store.specs.Places.{file_page}
 use Rattle.registry.proofs.Frames.{frame_alone, keeps_alone}
 use Rattle.registry.proofs.Replaced.{file_removed, thing_of}

@@ -5,8 +5,7 @@ use Rattle.card_check.specs.IsCard.{IsInLoadPages}
 use Rattle.card_types.proofs.DrawnCounter.{held_within}
 use Rattle.card_types.specs.Found.{aid_of}
 use Rattle.card_types.specs.RegistryChange.{moved}
-use Rattle.card_types.specs.Represents.{Represents, domain_aid}
-use Rattle.card_types.specs.Slots.{held}
+use Rattle.card_types.specs.Represents.{Represents, domain_aid, held}
 use Rattle.card_types.specs.declared.found.Found.{Found}
 use Rattle.card_types.specs.declared.found.Found.TheVariants as found
 use Rattle.card_types.specs.declared.limits.TheConstants.{ENTRIES}

@@ -1,7 +1,7 @@
 use Rattle.std.proofs.Common.{◌≡◌, ◌<◌, List, Option, None, length, ap, sym, subst, ◌∙◌, arith}
 use Rattle.std.specs.Prelude.{map}
 use Rattle.std.proofs.lemmas.List.{length-set}
-use Rattle.card_types.specs.Slots.{held}
+use Rattle.card_types.specs.Represents.{held}
 use Rattle.registry.specs.Removing.{freed, is_owned}
 use Rattle.registry.proofs.Frames.{keeps_on, still_room}
 use Rattle.registry.proofs.Freed.{freed_after, freed_differs, gone_more, gone_set, none_freed, rest_set}

@@ -1,6 +1,6 @@
 use Rattle.std.proofs.Common.{◌≡◌, ℕ, ◌<◌, false, length}
 use Rattle.std.specs.Prelude.{map}
-use Rattle.card_types.specs.Slots.{held}
+use Rattle.card_types.specs.Represents.{held}
 use Rattle.registry.specs.Pages.{KeepsRoom}
 use Rattle.registry.specs.Removing.{freed, is_owned}
 use Rattle.registry.proofs.Staging.{IsStaged}

@@ -2,8 +2,7 @@ use Rattle.std.proofs.Common.{None, ap, subst, sym, ◌∙◌}
 use Rattle.script_lines.proofs.OneKey.{first}
 use Rattle.script_lines.proofs.OneVerb.{begins, kind_of}
 use Rattle.script_lines.specs.Exchange.{SaysExchange}
-use Rattle.script_lines.specs.Reads.{Reads}
-use Rattle.script_lines.specs.Words.{left}
+use Rattle.script_lines.specs.Words.{Reads, left}
 use Rattle.script_lines.proofs.exchange.read.Goals as goal
 
 pub returns-in_err-read : goal.returns-in_err-read

@@ -1,8 +1,7 @@
 use Rattle.std.proofs.Common.{subst}
 use Rattle.script_lines.proofs.ShortCommand.{short_len, through}
-use Rattle.script_lines.specs.Reads.{Reads}
+use Rattle.script_lines.specs.Words.{Reads, SpellsUpTo}
 use Rattle.script_lines.specs.Send.{IsPlain, SpellsPlain, apdu_with}
-use Rattle.script_lines.specs.Values.{SpellsUpTo}
 use Rattle.script_lines.proofs.plain.spelled.Goals as goal
 
 pub returns-in_err-bytes : goal.returns-in_err-bytes

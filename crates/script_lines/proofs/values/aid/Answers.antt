@@ -1,5 +1,5 @@
 use Rattle.std.proofs.Common.{arith}
-use Rattle.script_lines.specs.Values.{SpellsAid, SpellsUpTo}
+use Rattle.script_lines.specs.Words.{SpellsAid, SpellsUpTo}
 use Rattle.script_lines.proofs.values.aid.Goals as goal
 
 pub returns-in_err-bytes : goal.returns-in_err-bytes

@@ -1,5 +1,5 @@
 use Rattle.std.proofs.Common.{◌∷◌, [], refl}
-use Rattle.script_lines.specs.Values.{SpellsByte, SpellsSome}
+use Rattle.script_lines.specs.Words.{SpellsByte, SpellsSome}
 use Rattle.script_lines.proofs.values.byte.Goals as goal
 
 pub returns-in-None : goal.returns-in-None

@@ -1,7 +1,7 @@
 use Rattle.std.proofs.Common.{arith}
 use Rattle.std.proofs.lemmas.Grind.{common_steps}
 use Rattle.script_lines.proofs.Digits.{half}
-use Rattle.script_lines.specs.Values.{SpellsSome, SpellsUpTo}
+use Rattle.script_lines.specs.Words.{SpellsSome, SpellsUpTo}
 use Rattle.script_lines.proofs.values.bytes.Goals as goal
 
 pub returns-then-count-lt1 : goal.returns-then-count-lt1

@@ -1,6 +1,6 @@
 use Rattle.std.proofs.Common.{refl}
 use Rattle.apdu_core.specs.Reply.{status_bytes}
-use Rattle.script_lines.specs.Values.{SpellsSome, SpellsStatus}
+use Rattle.script_lines.specs.Words.{SpellsSome, SpellsStatus}
 use Rattle.script_lines.proofs.values.status.Goals as goal
 
 pub returns-in_err-bytes : goal.returns-in_err-bytes

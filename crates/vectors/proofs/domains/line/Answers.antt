@@ -1,5 +1,5 @@
 use Rattle.std.proofs.Common.{◌≡◌, ℕ, zero, suc, [], ◌∷◌, None, Some, replicate, refl, ap, arith}
-use Rattle.card_types.specs.Slots.{held}
+use Rattle.card_types.specs.Represents.{held}
 use Rattle.card_types.specs.declared.tables.Entry.{Entry}
 use Rattle.domain_tree.specs.Slots.{IsFreeOfLoops}
 use Rattle.vectors.proofs.domains.line.Goals as goal

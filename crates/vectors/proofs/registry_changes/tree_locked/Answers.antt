@@ -1,4 +1,4 @@
-use Rattle.card_types.specs.InOrder.{IsInOrder}
+use Rattle.card_types.specs.Represents.{IsInOrder}
 use Rattle.domain_tree.proofs.AboveNamed.{free_of_loops}
 use Rattle.vectors.proofs.registry_changes.tree_locked.Goals as goal
 

@@ -1,7 +1,7 @@
 use Rattle.std.proofs.Common.{◌≡◌, Some, sym, ap, subst, ◌∙◌}
 use Rattle.std.specs.Prelude.{IfSome}
 use Rattle.card_check.specs.IsCard.{IsInLoadPages}
-use Rattle.card_types.specs.Slots.{held}
+use Rattle.card_types.specs.Represents.{held}
 use Rattle.page_journal.specs.Journal.{stored}
 use Rattle.rec_store.proofs.Reopening.{has_pages}
 use Rattle.rec_store.proofs.Roomy.{of_slot}

@@ -8,7 +8,7 @@ use Rattle.card_types.specs.declared.tables.Tables.{Tables}
 use Rattle.policy_machine.proofs.Judging.{judged}
 use Rattle.policy_machine.specs.CardStatus.{managed_card_status}
 use Rattle.policy_rules.specs.SetStatusRequests.{IsCardStatusOf}
-use Rattle.policy_slots.specs.Acting.{ActsIn}
+use Rattle.policy_slots.specs.StateShown.{ActsIn}
 use Rattle.card_core.proofs.card_status.CardStatusRequestManagedRequest.manage.Goals as goal
 use Rattle.policy_machine.specs.ManagedForm.{command_form}
 

@@ -6,7 +6,7 @@ use Rattle.card_core.proofs.Managing.{refused_as, replied_managed}
 use Rattle.card_core.proofs.SomeAdmitted.{of_card, some_acts, some_admitted}
 use Rattle.card_core.proofs.StatusChanged.{change_says, changed_aids, changed_cards, used_by_name}
 use Rattle.card_types.specs.Found.{aid_of}
-use Rattle.card_types.specs.InOrder.{IsInOrder}
+use Rattle.card_types.specs.Represents.{IsInOrder}
 use Rattle.card_types.specs.declared.found.Found.TheVariants as found
 use Rattle.card_types.specs.declared.tables.Tables.{Tables}
 use Rattle.domain_tree.proofs.AboveNamed.{free_of_loops}
@@ -16,7 +16,7 @@ use Rattle.policy_machine.specs.EntryStatus.{managed_entry_status}
 use Rattle.policy_rules.specs.SetStatusRequests.{IsOther, slot_of}
 use Rattle.policy_rules.specs.declared.entry_status.StatusChange.{StatusChange}
 use Rattle.policy_rules.specs.declared.entry_status.StatusChange.TheVariants.{One, Tree}
-use Rattle.policy_slots.specs.Acting.{ActsIn}
+use Rattle.policy_slots.specs.StateShown.{ActsIn}
 use Rattle.card_core.specs.StatusChanges.{MakesChange}
 use Rattle.card_core.proofs.entry_status.EntryStatusRequestManagedRequest.manage.Goals as goal
 use Rattle.policy_machine.specs.ManagedForm.{command_form}

@@ -7,8 +7,7 @@ use Rattle.card_core.proofs.EntryCards.{aids_kept, moved_cards, moving_keeps, re
 use Rattle.card_core.proofs.Managing.{confirmed_managed, refused_as}
 use Rattle.card_core.proofs.SomeAdmitted.{of_card, some_acts, some_admitted}
 use Rattle.card_types.specs.Privileges.{delegated_management}
-use Rattle.card_types.specs.Represents.{Represents, domain_aid}
-use Rattle.card_types.specs.Slots.{held}
+use Rattle.card_types.specs.Represents.{Represents, domain_aid, held}
 use Rattle.card_types.specs.declared.tables.Tables.{Tables}
 use Rattle.policy_machine.specs.Delegation.{Holds}
 use Rattle.card_types.specs.Found.{aid_of}

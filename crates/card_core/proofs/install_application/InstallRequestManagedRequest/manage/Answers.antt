@@ -11,8 +11,7 @@ use Rattle.card_types.specs.Found.{aid_of}
 use Rattle.card_types.specs.Privileges.{delegated_management}
 use Rattle.card_types.specs.Registry as registry
 use Rattle.card_types.specs.RegistryChange.{IsEntryAdded}
-use Rattle.card_types.specs.Represents.{entry_of}
-use Rattle.card_types.specs.Slots.{held}
+use Rattle.card_types.specs.Represents.{entry_of, held}
 use Rattle.card_types.specs.declared.found.Found.TheVariants.{File}
 use Rattle.card_types.specs.declared.tables.Entry.{Entry}
 use Rattle.card_types.specs.declared.tables.LoadFile.{LoadFile}

@@ -8,8 +8,7 @@ use Rattle.card_core.proofs.SomeAdmitted.{of_card, some_acts, some_admitted}
 use Rattle.card_types.proofs.Domains.{domain_aid_is}
 use Rattle.card_types.specs.Privileges.{delegated_management}
 use Rattle.card_types.specs.RegistryChange.{with_life}
-use Rattle.card_types.specs.Represents.{Represents, domain_aid}
-use Rattle.card_types.specs.Slots.{held}
+use Rattle.card_types.specs.Represents.{Represents, domain_aid, held}
 use Rattle.card_types.specs.declared.tables.Entry.{Entry}
 use Rattle.policy_machine.proofs.MakeSelectableLaws.{selectable_life, selectable_of_card}
 use Rattle.policy_machine.specs.Delegation.{Holds}

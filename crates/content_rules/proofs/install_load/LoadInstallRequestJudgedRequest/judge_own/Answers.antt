@@ -1,7 +1,7 @@
 use Rattle.std.proofs.Common.{rules, ℕ, List, [], ◌∷◌, Option, inl, inr, refl, sym, ◌∙◌}
 use Rattle.std.proofs.lemmas.Bool.{iff_false}
 use Rattle.policy_machine.specs.Admission.{Admitted}
-use Rattle.policy_machine.specs.FirstFailing.{IsFirst}
+use Rattle.policy_machine.specs.Refusal.{IsFirst}
 use Rattle.policy_machine.specs.InstallLoad.{InstallingLoadFails, LoadData, judged_install_load}
 use Rattle.policy_machine.specs.ManagedForm.{OwnFirst}
 use Rattle.policy_machine.specs.declared.install_load.RuleIL.{RuleIL}
@@ -10,8 +10,7 @@ use Rattle.content_rules.proofs.InstallApplicationJudging.{none_found}
 use Rattle.content_rules.proofs.InstallLoadJudging.{free, full, idle, loading, roomy, taken, within}
 use Rattle.content_rules.specs.InstallLoadRequests.{IsLoadInstallOf}
 use Rattle.policy_slots.proofs.ThingsFound.{acting_named}
-use Rattle.policy_slots.specs.Acting.{ActsIn}
-use Rattle.policy_slots.specs.StateShown.{IsLoadNamed}
+use Rattle.policy_slots.specs.StateShown.{ActsIn, IsLoadNamed}
 use Rattle.content_rules.proofs.install_load.LoadInstallRequestJudgedRequest.judge_own.Goals as goal
 use Rattle.content_rules.proofs.install_load.LoadInstallRequestJudgedRequest.judge_own.Goals.{After-find, After-first_free, After-is_at_or_above}
 

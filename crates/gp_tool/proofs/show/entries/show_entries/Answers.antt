@@ -1,5 +1,5 @@
 use Rattle.std.proofs.Common.{refl}
-use Rattle.card_types.specs.AidOrder.{aid_order}
+use Rattle.card_types.specs.Aid.{aid_order}
 use Rattle.card_types.specs.Registry.{Entry}
 use Rattle.card_types.proofs.LeastOfList.{sorted_by_name}
 use Rattle.card_types.specs.Represents.{entry_of}

@@ -1,8 +1,7 @@
 use Rattle.std.proofs.Common.{ℕ, List, Option, None, Some, IfNone, subst, sym}
 use Rattle.script_lines.specs.Control.{SaysControl}
 use Rattle.script_lines.specs.Line.{HasNoForm, SaysLine, SaysSending}
-use Rattle.script_lines.specs.Reads.{Reads}
-use Rattle.script_lines.specs.Words.{words_of}
+use Rattle.script_lines.specs.Words.{Reads, words_of}
 use Rattle.script_lines.specs.declared.control.Control as control
 use Rattle.script_lines.specs.declared.line.ScriptLine.{ScriptLine}
 use Rattle.script_lines.specs.declared.line.ScriptLine.TheVariants.{Nothing, Control, Exchange, Quiet}
