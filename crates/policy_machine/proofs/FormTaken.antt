@@ -5,7 +5,7 @@ use Rattle.policy_machine.specs.CommandForm.{CommandForm}
 use Rattle.policy_machine.specs.Commands.{AtMostOne, DoesAs, HasEffect, Judges, JudgesAs, OneOf, TakesCommand, forms_of}
 use Rattle.policy_machine.specs.State.{Effect}
 use Rattle.policy_machine.specs.declared.rule.Rule.{Rule}
-use Rattle.policy_machine.proofs.AllLawful.{AllOf, all_lawful}
+use Rattle.policy_machine.proofs.AllForms.{AllOf, lawful_forms, one_form}
 use Rattle.policy_machine.proofs.Lawful.{IsLawful}
 
 -- what is judged by its own rules has a form
@@ -39,7 +39,7 @@ module _ (admitted : Admitted) (P Q : CommandForm → Type 0) (takes : (form : C
 
   pub join_forms : OneOf P (forms_of admitted.command.ins) → OneOf Q (forms_of admitted.command.ins) → OneOf (λ form. P form × Q form) (forms_of admitted.command.ins)
   join_forms =
-      joined (forms_of admitted.command.ins) ((all_lawful admitted.command.ins).one admitted.command.ins admitted.command.p1 admitted.command.p2 admitted.command.body)
+      joined (forms_of admitted.command.ins) (one_form admitted.command.ins admitted.command.p1 admitted.command.p2 admitted.command.body)
 
 -- what follows of a lawful form by two such things follows of the command
 pub by_form : (admitted : Admitted) (P Q : CommandForm → Type 0) → ((form : CommandForm) → P form → TakesCommand form admitted.command)
@@ -47,7 +47,7 @@ pub by_form : (admitted : Admitted) (P Q : CommandForm → Type 0) → ((form : 
     → OneOf P (forms_of admitted.command.ins) → OneOf Q (forms_of admitted.command.ins) → R
 by_form admitted P Q takes takes_too R so one other =
     pick_form IsLawful (λ form. P form × Q form) (λ form. Unit {0}) R (forms_of admitted.command.ins) (λ form lawful both there. so form lawful both.0 both.1)
-    (all_lawful admitted.command.ins).each (join_forms admitted P Q takes takes_too one other)
+    (lawful_forms admitted.command.ins) (join_forms admitted P Q takes takes_too one other)
 
 -- an accepted command is judged by a form, and does what that does
 abbrev pub Accepts : Admitted → Effect → CommandForm → Type 0
@@ -61,7 +61,7 @@ pub accepted_by : (admitted : Admitted) (done : Effect) (R : Type 0) → ((form 
     → Judges admitted None → HasEffect admitted done → R
 accepted_by admitted done R so judges does =
     pick_form IsLawful (Accepts admitted done) (λ form. Unit {0}) R (forms_of admitted.command.ins) (λ form lawful both there. so form lawful both.0 both.1.1)
-    (all_lawful admitted.command.ins).each (accepting_form admitted done judges does)
+    (lawful_forms admitted.command.ins) (accepting_form admitted done judges does)
 
 -- a command does what a form that takes it does, whatever rule it is judged by
 pub done_by : (admitted : Admitted) (done : Effect) (R : Type 0) → ((form : CommandForm) → IsLawful form → TakesCommand form admitted.command → form.does admitted done → R)

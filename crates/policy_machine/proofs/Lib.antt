@@ -2,9 +2,7 @@ pub mod Alike
 pub mod AlikeLoads
 pub mod AlikeManaged
 pub mod AlikePlain
-pub mod AllLawful
-pub mod AllRising
-pub mod AllSparing
+pub mod AllForms
 pub mod AnsweredKeeps
 pub mod AnsweredRises
 pub mod AnsweredSpares
@@ -34,6 +32,7 @@ pub mod FirstJoined
 pub mod FirstLike
 pub mod FirstUnique
 pub mod FitsKept
+pub mod FormLaws
 pub mod FormTaken
 pub mod FormsKeepNumbers
 pub mod FreshChannel
@@ -58,6 +57,7 @@ pub mod LengthFields
 pub mod LoadBlocksBrought
 pub mod LoadLaws
 pub mod LoadOfChannel
+pub mod LoadRises
 pub mod LoadSpares
 pub mod LoadsLeft
 pub mod MakeSelectableLaws

@@ -14,12 +14,12 @@ use Rattle.policy_machine.specs.Sound.{IsSound}
 use Rattle.policy_machine.specs.State.{Effect, State, powered_on}
 use Rattle.policy_machine.specs.Step.{IsAccepted, Outcome, sent}
 use Rattle.policy_machine.specs.declared.rule.Rule.{Rule}
-use Rattle.policy_machine.proofs.AllRising.{all_rising}
+use Rattle.policy_machine.proofs.AllForms.{all_forms}
+use Rattle.policy_machine.proofs.FormLaws.{FormLaws}
 use Rattle.policy_machine.proofs.FormTaken.{Accepts, accepting_form, join_forms, pick_form}
 use Rattle.policy_machine.proofs.KeepsSound.{admitted_is_ready, starts_sound, steps_keep_sound}
 use Rattle.policy_machine.proofs.Lawful.{IsReady, some_same}
 use Rattle.policy_machine.proofs.OneOutcome.{admits_one}
-use Rattle.policy_machine.proofs.RisingForms.{IsRising}
 
 module _ (state : State) (bytes : List ℕ) (outcome : Outcome) (domain : List ℕ) (before after : ℕ) where
   abbrev Told : Type 0
@@ -74,21 +74,21 @@ module _ (state : State) (bytes : List ℕ) (outcome : Outcome) (domain : List �
 
       pub confirmed_so : IsConfirmedSo
       confirmed_so =
-          pick_form IsRising (λ form. TakesToConfirm aids form × Accepts admitted done form) (λ form. Unit {0}) IsConfirmedSo (forms_of admitted.command.ins)
-          (λ form rising both there.
-          (let so = rising.rises admitted done ready both.1.0 both.1.1.1 domain before after was_at is_done in
+          pick_form FormLaws (λ form. TakesToConfirm aids form × Accepts admitted done form) (λ form. Unit {0}) IsConfirmedSo (forms_of admitted.command.ins)
+          (λ form laws both there.
+          (let so = laws.rising.rises admitted done ready both.1.0 both.1.1.1 domain before after was_at is_done in
           let confirmed = so.confirmed aids key both.0.1 receipter in
-          record { rises = confirmed.0; body = confirmed.1; status = rising.status admitted done aids both.1.1.1 both.0.1 }))
-          (all_rising admitted.command.ins).each
+          record { rises = confirmed.0; body = confirmed.1; status = laws.rising.status admitted done aids both.1.1.1 both.0.1 }))
+          (all_forms admitted.command.ins).each
           (join_forms admitted (TakesToConfirm aids) (Accepts admitted done) (λ form one. one.0) (λ form other. other.0.0) confirms accepting)
 
     -- the domain does not confirm it
     unconfirmed_same : ((aids : List (List ℕ)) (key : Key) → Confirms admitted aids → IsReceipter admitted.at.registry (acting admitted) domain key → ⊥) → after ≡ before
     unconfirmed_same none =
-        pick_form IsRising (Accepts admitted done) ConfirmsSome (after ≡ before) (forms_of admitted.command.ins)
-        (λ form rising both there. (rising.rises admitted done ready both.0 both.1.1 domain before after was_at is_done).same (λ aids key so receipter.
+        pick_form FormLaws (Accepts admitted done) ConfirmsSome (after ≡ before) (forms_of admitted.command.ins)
+        (λ form laws both there. (laws.rising.rises admitted done ready both.0 both.1.1 domain before after was_at is_done).same (λ aids key so receipter.
         (let some = told_of (forms_of admitted.command.ins) (there (aids, (both.0.0, so))) in none some.0 key some.1 receipter)))
-        (all_rising admitted.command.ins).each accepting
+        (all_forms admitted.command.ins).each accepting
       where
         told_of : (forms : List CommandForm) → OneOf ConfirmsSome forms → (aids : List (List ℕ)) × OneOf (TakesToConfirm aids) forms
         told_of [] one = absurd one

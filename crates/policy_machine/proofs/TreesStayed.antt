@@ -15,11 +15,11 @@ use Rattle.policy_machine.specs.Sound.{IsSound}
 use Rattle.policy_machine.specs.State.{State, selected_on}
 use Rattle.policy_machine.specs.Step.{IsAccepted, Outcome}
 use Rattle.policy_machine.specs.Trees.{InTreeOf, Member, TreeStays}
-use Rattle.policy_machine.proofs.AllSparing.{all_sparing}
+use Rattle.policy_machine.proofs.AllForms.{all_forms}
+use Rattle.policy_machine.proofs.FormLaws.{FormLaws}
 use Rattle.policy_machine.proofs.FormTaken.{Accepts, accepting_form, pick_form}
 use Rattle.policy_machine.proofs.KeepsSound.{admitted_is_ready}
 use Rattle.policy_machine.proofs.Passing.{admitted_selected}
-use Rattle.policy_machine.proofs.SparingForms.{IsSparing}
 use Rattle.policy_machine.proofs.TreeKept.{KeepsTree}
 
 module _ (state : State) (bytes : List ℕ) (outcome : Outcome) (domain : List ℕ) where
@@ -60,11 +60,11 @@ module _ (state : State) (bytes : List ℕ) (outcome : Outcome) (domain : List �
 
     kept : KeepsTree admitted accepts.done.state.registry domain
     kept =
-        pick_form IsSparing (Accepts admitted accepts.done) (λ form. Unit {0}) (KeepsTree admitted accepts.done.state.registry domain) (forms_of admitted.command.ins)
-        (λ form sparing both there.
-        sparing.spares admitted accepts.done (admitted_is_ready state bytes admitted sound accepts.admits) both.0 both.1.1 domain
+        pick_form FormLaws (Accepts admitted accepts.done) (λ form. Unit {0}) (KeepsTree admitted accepts.done.state.registry domain) (forms_of admitted.command.ins)
+        (λ form laws both there.
+        laws.sparing.spares admitted accepts.done (admitted_is_ready state bytes admitted sound accepts.admits) both.0 both.1.1 domain
         (subst (λ (r : Registry). IsDomainNamed r domain) (sym at) named) (powerless form both.0.0))
-        (all_sparing admitted.command.ins).each (accepting_form admitted accepts.done accepts.judges accepts.does)
+        (all_forms admitted.command.ins).each (accepting_form admitted accepts.done accepts.judges accepts.does)
 
     brought : (member : Member) → InTreeOf admitted.at.registry domain member ⊎ IsEntrusted admitted domain member
         → InTreeOf state.registry domain member ⊎ BringsInto state bytes outcome domain member

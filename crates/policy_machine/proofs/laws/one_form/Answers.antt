@@ -1,4 +1,4 @@
-use Rattle.policy_machine.proofs.AllLawful.{one_form}
+use Rattle.policy_machine.proofs.AllForms.{one_form}
 use Rattle.policy_machine.proofs.laws.one_form.Goals as goal
 
 pub returns : goal.returns
