@@ -5,7 +5,7 @@ use Rattle.card_types.proofs.SameAid.{aid_same_itself}
 use Rattle.card_types.specs.Aid.{same_aid}
 use Rattle.card_types.specs.Registry.{Entry, Registry, entry_named}
 use Rattle.policy_machine.specs.Admission.{Admitted}
-use Rattle.policy_machine.specs.Select.{IsSelected, SelectEffect, fits_select, least_fitting, IsControlInformation, control_parts, select}
+use Rattle.policy_machine.specs.Select.{SelectsEntry, SelectEffect, fits_select, least_fitting, IsControlInformation, control_parts, select}
 use Rattle.policy_machine.specs.Sound.{Fits, IsSound}
 use Rattle.policy_machine.specs.State.{Effect, Volatile, fresh, with_selected}
 use Rattle.policy_machine.proofs.SetChannel.{ended_fits}
@@ -41,8 +41,8 @@ fitting_is_named registry partial entry found =
 
 -- the entry that is selected
 selected : (admitted : Admitted) (done : Effect) → SelectEffect admitted done
-    → (entry : Entry) × (least_fitting admitted.at.registry admitted.command.body ≡ Some entry) × IsSelected admitted done entry
-selected admitted done = found_so (IsSelected admitted done) (least_fitting admitted.at.registry admitted.command.body)
+    → (entry : Entry) × (least_fitting admitted.at.registry admitted.command.body ≡ Some entry) × SelectsEntry admitted done entry
+selected admitted done = found_so (SelectsEntry admitted done) (least_fitting admitted.at.registry admitted.command.body)
 
 select_keeps : (admitted : Admitted) (done : Effect) → IsReady admitted → SelectEffect admitted done → IsSound done.state
 select_keeps admitted done ready does =
@@ -62,7 +62,7 @@ control_information_one aid a b one other =
     one_spelling 0x6F other.template a b (subst (λ (t : List ℕ). Spelling 0x6F t a) template one.whole) other.whole
 
 select_one : (admitted : Admitted) (a b : Effect) (found : Option registry.Entry)
-    → MatchOption found ⊥ (IsSelected admitted a) → MatchOption found ⊥ (IsSelected admitted b) → a ≡ b
+    → MatchOption found ⊥ (SelectsEntry admitted a) → MatchOption found ⊥ (SelectsEntry admitted b) → a ≡ b
 select_one admitted a b None one other = absurd one
 select_one admitted a b (Some entry) one other =
     effect_same a b

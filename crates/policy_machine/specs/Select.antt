@@ -27,9 +27,9 @@ SelectParameters p1 p2 = (p1 ≡ 0x04) × (p2 ≡ 0x00)
 abbrev pub SelectField : List ℕ → Type 0
 SelectField body = length body ≤ 16
 
-abbrev pub is_installed : Life → Bool
-is_installed life.Installed = true
-is_installed other = false
+abbrev pub is_merely_installed : Life → Bool
+is_merely_installed life.Installed = true
+is_merely_installed other = false
 
 abbrev pub is_card_locked : CardLife → Bool
 is_card_locked card.Locked = true
@@ -41,7 +41,7 @@ is_card_locked other = false
 abbrev pub fits_as : CardLife → List ℕ → List ℕ → LifeMark → Bool
 fits_as card_life partial aid mark =
     if length partial == 0 then same_aid aid ISSUER
-    else starts_with nat_eq aid partial && not mark.locked && not (is_installed mark.life)
+    else starts_with nat_eq aid partial && not mark.locked && not (is_merely_installed mark.life)
     && (not (is_card_locked card_life) || same_aid aid ISSUER)
 
 abbrev pub fits_select : CardLife → List ℕ → Entry → Bool
@@ -79,7 +79,7 @@ abbrev pub selected_status : CardLife → ℕ
 selected_status card_life = if is_card_locked card_life then 0x6283 else 0x9000
 
 -- the entry is selected, and all that the channel had ends
-pub record IsSelected (admitted : Admitted) (done : Effect) (entry : Entry) : Type 0 where
+pub record SelectsEntry (admitted : Admitted) (done : Effect) (entry : Entry) : Type 0 where
   pub registry : done.state.registry ≡ admitted.at.registry
   pub volatile : done.state.volatile ≡ with_selected admitted.at.volatile admitted.channel entry.aid
   pub body : IsControlInformation entry.aid done.body
@@ -87,7 +87,7 @@ pub record IsSelected (admitted : Admitted) (done : Effect) (entry : Entry) : Ty
 
 -- SELECT selects the least fitting entry
 abbrev pub SelectEffect : Admitted → Effect → Type 0
-SelectEffect admitted done = MatchOption (least_fitting admitted.at.registry admitted.command.body) ⊥ (IsSelected admitted done)
+SelectEffect admitted done = MatchOption (least_fitting admitted.at.registry admitted.command.body) ⊥ (SelectsEntry admitted done)
 
 -- SELECT
 abbrev pub select : CommandForm
