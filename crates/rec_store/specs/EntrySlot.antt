@@ -1,12 +1,13 @@
 -- The slot of an application or a security domain, of 64 bytes. Numbers are big-endian, and bytes that are not named are
 -- not read. Privileges with names are in three bytes, so no others are kept.
-use Rattle.std.specs.Prelude.{◌≡◌, ◌%◌, ◌^◌, ◌<◌, ℕ, List, Option, None, Some, slice_index}
+use Rattle.std.specs.Prelude.{◌≡◌, ◌%◌, ◌^◌, ◌<◌, ℕ, List, Option, slice_index}
 use Rattle.byteorder.specs.Endian.{big_from}
 use Rattle.card_types.specs.Aid.{IsAid}
 use Rattle.card_types.specs.LifeMark.{life_mark_code}
 use Rattle.card_types.specs.Privileges.{bits_of}
 use Rattle.card_types.specs.declared.tables.Entry.{Entry}
 use Rattle.rec_store.specs.Bytes.{HasAid, HasBytesAt}
+use Rattle.rec_store.specs.Slot.{Holds}
 
 pub record IsEntryIn (slot : List ℕ) (entry : Entry) : Type 0 where
   pub mark : slice_index slot 0 ≡ 0x01
@@ -19,10 +20,8 @@ pub record IsEntryIn (slot : List ℕ) (entry : Entry) : Type 0 where
   pub privileges : big_from 38 3 slot ≡ bits_of entry.privileges % 2 ^ 24
   pub receipts : big_from 41 2 slot ≡ entry.receipts
 
--- what a slot holds: its mark is 01 where it is used, and 00 where it is free
 abbrev pub HoldsEntry : List ℕ → Option Entry → Type 0
-HoldsEntry slot None = slice_index slot 0 ≡ 0x00
-HoldsEntry slot (Some entry) = IsEntryIn slot entry
+HoldsEntry = Holds IsEntryIn
 
 -- its privileges are in three bytes, as all that have names
 abbrev pub HasThreeBytes : Entry → Type 0

@@ -1,13 +1,14 @@
 -- The load directory of an Executable Load File, of 256 bytes: its name, its length, and the load pages that hold it. A page
 -- number has nine bits above that of the first load page. The low eight of the i-th stand in byte 64 + i, and the ninth in a bit map from byte 192 on,
 -- the highest bit of a byte first.
-use Rattle.std.specs.Prelude.{◌≡◌, ℕ, ◌+◌, ◌-◌, ◌*◌, ◌/◌, ◌%◌, ◌^◌, ◌<◌, ◌≤◌, List, Option, None, Some, slice_index}
+use Rattle.std.specs.Prelude.{◌≡◌, ℕ, ◌+◌, ◌-◌, ◌*◌, ◌/◌, ◌%◌, ◌^◌, ◌<◌, ◌≤◌, List, Option, slice_index}
 use Rattle.byteorder.specs.Endian.{big_from}
 use Rattle.card_types.specs.Well.{pages_of}
 use Rattle.card_types.specs.declared.limits.TheConstants.{FILE_LIMIT}
 use Rattle.card_types.specs.declared.tables.LoadFile.{LoadFile}
 use Rattle.page_journal.specs.declared.pages.TheConstants.{FIRST_LOAD_PAGE}
 use Rattle.rec_store.specs.Bytes.{HasAid}
+use Rattle.rec_store.specs.Slot.{Holds}
 
 abbrev pub ninth_bit : List ℕ → ℕ → ℕ
 ninth_bit slot i = slice_index slot (192 + i / 8) / 2 ^ (7 - i % 8) % 2
@@ -24,7 +25,5 @@ pub record IsFileIn (slot : List ℕ) (file : LoadFile) : Type 0 where
   pub limit : file.len ≤ FILE_LIMIT
   pub pages : (i : ℕ) → i < pages_of file.len → slice_index file.pages i ≡ page_in slot i
 
--- what a slot holds: its mark is 01 where it is used, and 00 where it is free
 abbrev pub HoldsFile : List ℕ → Option LoadFile → Type 0
-HoldsFile slot None = slice_index slot 0 ≡ 0x00
-HoldsFile slot (Some file) = IsFileIn slot file
+HoldsFile = Holds IsFileIn

@@ -1,11 +1,12 @@
 -- The slot of a key, of 64 bytes. The sequence counter of a key set stands with its key of key identifier 01, and is not read
 -- of any other key.
-use Rattle.std.specs.Prelude.{◌≡◌, ℕ, ◌≤◌, List, Option, None, Some, length, slice_index, if◌then◌else◌}
+use Rattle.std.specs.Prelude.{◌≡◌, ℕ, ◌≤◌, List, Option, length, slice_index, if◌then◌else◌}
 use Rattle.byteorder.specs.Endian.{big_from}
 use Rattle.card_types.specs.Represents.{keeps_counter}
 use Rattle.card_types.specs.declared.limits.TheConstants.{COUNTER_LIMIT}
 use Rattle.card_types.specs.declared.tables.KeyRec.{KeyRec}
 use Rattle.rec_store.specs.Bytes.{HasBytesAt}
+use Rattle.rec_store.specs.Slot.{Holds}
 
 pub record IsKeyIn (slot : List ℕ) (key : KeyRec) : Type 0 where
   pub mark : slice_index slot 0 ≡ 0x01
@@ -16,10 +17,8 @@ pub record IsKeyIn (slot : List ℕ) (key : KeyRec) : Type 0 where
   pub bytes : HasBytesAt slot 4 key.bytes.items
   pub counter : key.counter ≡ (if keeps_counter key then big_from 37 3 slot else 0)
 
--- what a slot holds: its mark is 01 where it is used, and 00 where it is free
 abbrev pub HoldsKey : List ℕ → Option KeyRec → Type 0
-HoldsKey slot None = slice_index slot 0 ≡ 0x00
-HoldsKey slot (Some key) = IsKeyIn slot key
+HoldsKey = Holds IsKeyIn
 
 -- a slot has room for the key: its counter is one that a key set may have, or 0 where it keeps none
 abbrev pub IsRoomyKey : KeyRec → Type 0

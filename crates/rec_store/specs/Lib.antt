@@ -1,5 +1,6 @@
 pub mod Places
 pub mod Bytes
+pub mod Slot
 pub mod EntrySlot
 pub mod FileSlot
 pub mod KeySlot

@@ -1,8 +1,9 @@
 -- The slot of a data object, of 128 bytes.
-use Rattle.std.specs.Prelude.{◌≡◌, ℕ, ◌≤◌, List, Option, None, Some, length, slice_index}
+use Rattle.std.specs.Prelude.{◌≡◌, ℕ, ◌≤◌, List, Option, length, slice_index}
 use Rattle.byteorder.specs.Endian.{big_from}
 use Rattle.card_types.specs.declared.tables.Object.{Object}
 use Rattle.rec_store.specs.Bytes.{HasBytesAt}
+use Rattle.rec_store.specs.Slot.{Holds}
 
 pub record IsObjectIn (slot : List ℕ) (object : Object) : Type 0 where
   pub mark : slice_index slot 0 ≡ 0x01
@@ -11,7 +12,5 @@ pub record IsObjectIn (slot : List ℕ) (object : Object) : Type 0 where
   pub size : length object.value.items ≤ 120
   pub value : HasBytesAt slot 4 object.value.items
 
--- what a slot holds: its mark is 01 where it is used, and 00 where it is free
 abbrev pub HoldsObject : List ℕ → Option Object → Type 0
-HoldsObject slot None = slice_index slot 0 ≡ 0x00
-HoldsObject slot (Some object) = IsObjectIn slot object
+HoldsObject = Holds IsObjectIn

@@ -1,16 +1,15 @@
 //! The load directory of an Executable Load File.
 
-ghost use Rattle.std.specs.Prelude.{◌≡◌, ◌<◌, ◌≤◌, ◌+◌, ◌-◌, ◌/◌, ◌%◌, ◌^◌, ℕ, List, Option, All, length, slice_index, take, IfOk, OnErr, IfSome};
+ghost use Rattle.std.specs.Prelude.{◌≡◌, ◌<◌, ◌≤◌, ◌+◌, ◌-◌, ◌/◌, ◌%◌, ◌^◌, ℕ, All, length, slice_index, take};
 ghost use Rattle.card_check.specs.IsCard.{IsInLoadPages};
-ghost use Rattle.card_types.specs.declared.tables.LoadFile.{LoadFile as FileOf};
 ghost use Rattle.flash_core.specs.declared.page.TheConstants.{PAGES};
 ghost use Rattle.page_journal.specs.Pages.{IsLoadPage};
 ghost use Rattle.page_journal.specs.declared.pages.TheConstants.{FIRST_LOAD_PAGE};
-ghost use Rattle.rec_store.specs.FileSlot.{HoldsFile, IsFileIn, page_in};
+ghost use Rattle.rec_store.specs.FileSlot.{IsFileIn, page_in};
 ghost use Rattle.std.proofs.Common.{lit<, lit≤, refl};
 
 use crate::bytes::{aid_at, put_bytes, put_u16};
-use crate::slot::{BadSlot, FREE, Slot, USED};
+use crate::slot::{BadSlot, Slot, USED};
 use byteorder::{BigEndian, ByteOrder};
 use card_types::{FILE_LIMIT, LoadFile};
 use page_journal::FIRST_LOAD_PAGE;
@@ -24,48 +23,37 @@ impl Slot for LoadFile {
 
     const SIZE: usize = 256;
 
-    ghost holds = { HoldsFile };
+    ghost is_in = { IsFileIn };
+
+    ghost marked = { λ slot file is. is.mark };
 
     ghost is_roomy = { IsInLoadPages };
 
     ghost is_read = { IsInLoadPages };
 
-    fn read(slot: &[u8]) -> Result<Option<LoadFile>, BadSlot> {
-        match slot[0] {
-            FREE => Ok(None),
-            USED => Ok(Some(read_used(slot)?)),
-            _ => Err(BadSlot),
+    fn read_used(slot: &[u8]) -> Result<LoadFile, BadSlot> {
+        let aid = aid_at(slot, 1)?;
+        let len = BigEndian::read_u16(&slot[19..]);
+        if usize::from(len) > FILE_LIMIT {
+            return Err(BadSlot);
         }
+        Ok(LoadFile {
+            aid,
+            domain: slot[18],
+            len,
+            pages: read_pages(slot, usize::from(len).div_ceil(256)),
+        })
     }
 
-    fn write(thing: &Option<LoadFile>, slot: &mut [u8]) {
-        match thing {
-            Some(file) => write_used(file, slot),
-            None => slot[0] = FREE,
-        }
+    fn write_used(&self, slot: &mut [u8]) {
+        slot[0] = USED;
+        put_bytes(slot, 1, self.aid.as_bytes());
+        slot[18] = self.domain;
+        put_u16(slot, 19, self.len);
+        write_pages(&self.pages, usize::from(self.len).div_ceil(256), slot);
     }
 
     ghost sizes = { (lit< tt, refl, lit≤ tt) };
-}
-
-fn read_used(slot: &[u8]) -> Result<LoadFile, BadSlot>
-    requires size { length slot.now ≡ 256 }
-    requires mark { slice_index slot.now 0 ≡ 1 }
-    ensures ok { IfOk result (IsFileIn slot.now) }
-    ensures roomy { IfOk result IsInLoadPages }
-    ensures err { OnErr result ((file : FileOf) → IsFileIn slot.now file → ⊥) }
-{
-    let aid = aid_at(slot, 1)?;
-    let len = BigEndian::read_u16(&slot[19..]);
-    if usize::from(len) > FILE_LIMIT {
-        return Err(BadSlot);
-    }
-    Ok(LoadFile {
-        aid,
-        domain: slot[18],
-        len,
-        pages: read_pages(slot, usize::from(len).div_ceil(256)),
-    })
 }
 
 // The numbers of the first so many load pages, and zeros after them.
@@ -80,18 +68,6 @@ fn read_pages(slot: &[u8], count: usize) -> [u16; 128]
         pages[i] = FIRST_LOAD_PAGE + 256 * u16::from(ninth) + u16::from(slot[64 + i]);
     }
     pages
-}
-
-fn write_used(file: &LoadFile, slot: &mut [u8])
-    requires size { length slot.old ≡ 256 }
-    requires roomy { IsInLoadPages file.now }
-    ensures { IsFileIn slot.new file.now }
-{
-    slot[0] = USED;
-    put_bytes(slot, 1, file.aid.as_bytes());
-    slot[18] = file.domain;
-    put_u16(slot, 19, file.len);
-    write_pages(&file.pages, usize::from(file.len).div_ceil(256), slot);
 }
 
 // Makes the numbers of the first so many load pages stand in a slot.

@@ -1,6 +1,7 @@
 //! What stands in slots of store pages.
 
-ghost use Rattle.std.specs.Prelude.{◌≡◌, ◌+◌, ◌*◌, ◌/◌, ◌<◌, ◌≤◌, ℕ, List, Option, length, IfOk, OnErr, IfSome};
+ghost use Rattle.std.specs.Prelude.{◌≡◌, ◌+◌, ◌*◌, ◌/◌, ◌<◌, ◌≤◌, ℕ, List, Option, length, slice_index, IfOk, OnErr, IfSome};
+ghost use Rattle.rec_store.specs.Slot.{Holds};
 
 /// The first byte of a free slot and of a used one.
 pub const FREE: u8 = 0;
@@ -22,8 +23,10 @@ pub trait Slot: Drop {
 
     const SIZE: usize;
 
-    // What a slot with these bytes holds.
-    ghost holds: { List ℕ → Option Self → Type 0 };
+    // A slot with these bytes is used for the thing, and marked so.
+    ghost is_in: { List ℕ → Self → Type 0 };
+
+    ghost marked: { (slot : List ℕ) → (thing : Self) → is_in slot thing → slice_index slot 0 ≡ 1 };
 
     // A slot has room for the thing.
     ghost is_roomy: { Self → Type 0 };
@@ -31,19 +34,46 @@ pub trait Slot: Drop {
     // What is so of each thing that is read.
     ghost is_read: { Self → Type 0 };
 
-    /// What a slot holds.
-    fn read(slot: &[u8]) -> Result<Option<Self>, BadSlot>
-        requires { length slot.now ≡ SIZE }
-        ensures ok { IfOk result (holds slot.now) }
-        ensures read { IfOk result (λ thing. IfSome thing is_read) }
-        ensures err { OnErr result ((thing : Option Self) → holds slot.now thing → ⊥) };
+    /// What a used slot holds.
+    fn read_used(slot: &[u8]) -> Result<Self, BadSlot>
+        requires size { length slot.now ≡ SIZE }
+        requires mark { slice_index slot.now 0 ≡ 1 }
+        ensures ok { IfOk result (is_in slot.now) }
+        ensures read { IfOk result is_read }
+        ensures err { OnErr result ((thing : Self) → is_in slot.now thing → ⊥) };
 
     /// Makes a slot hold this.
-    fn write(thing: &Option<Self>, slot: &mut [u8])
+    fn write_used(&self, slot: &mut [u8])
         requires size { length slot.old ≡ SIZE }
-        requires roomy { IfSome thing.now is_roomy }
-        ensures { holds slot.new thing.now };
+        requires roomy { is_roomy self.now }
+        ensures { is_in slot.new self.now };
 
     // Whole slots fill a page.
     ghost sizes: { (0 < SIZE) × (256 / SIZE * SIZE ≡ 256) × (FIRST ≤ 37) };
+}
+
+/// What a slot holds.
+pub fn read<T: Slot>(slot: &[u8]) -> Result<Option<T>, BadSlot>
+    requires { length slot.now ≡ T.SIZE }
+    ensures ok { IfOk result (Holds T.is_in slot.now) }
+    ensures read { IfOk result (λ thing. IfSome thing T.is_read) }
+    ensures err { OnErr result ((thing : Option T) → Holds T.is_in slot.now thing → ⊥) }
+{
+    match slot[0] {
+        FREE => Ok(None),
+        USED => Ok(Some(T::read_used(slot)?)),
+        _ => Err(BadSlot),
+    }
+}
+
+/// Makes a slot hold this, or nothing.
+pub fn write<T: Slot>(thing: &Option<T>, slot: &mut [u8])
+    requires size { length slot.old ≡ T.SIZE }
+    requires roomy { IfSome thing.now T.is_roomy }
+    ensures { Holds T.is_in slot.new thing.now }
+{
+    match thing {
+        Some(thing) => thing.write_used(slot),
+        None => slot[0] = FREE,
+    }
 }

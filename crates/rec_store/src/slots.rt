@@ -12,40 +12,41 @@ ghost use Rattle.rec_store.specs.Contents.{SlotsFail};
 ghost use Rattle.rec_store.specs.Reopens.{store_in, store_page};
 ghost use Rattle.rec_store.specs.Places.{slot_at, slot_from};
 ghost use Rattle.rec_store.specs.Reading.{IsRead};
+ghost use Rattle.rec_store.specs.Slot.{Holds};
 ghost use Rattle.rec_store.specs.StoredTables.{AreHeld, HoldsPage};
 
 use crate::open::OpenCause;
-use crate::slot::{BadSlot, Slot};
+use crate::slot::{BadSlot, Slot, read, write};
 use flash_core::{Flash, FlashFailed, Page};
 use page_journal::PageStore;
 
 // What the slot at a place of a page holds.
 fn read_at<T: Slot>(bytes: &[u8; 256], place: usize) -> Result<Option<T>, BadSlot>
     requires { place < 256 / T.SIZE }
-    ensures ok { IfOk result (T.holds (slot_at bytes.now T.SIZE place)) }
+    ensures ok { IfOk result (Holds T.is_in (slot_at bytes.now T.SIZE place)) }
     ensures read_each { IfOk result (λ thing. IfSome thing T.is_read) }
-    ensures err { OnErr result ((thing : Option T) → T.holds (slot_at bytes.now T.SIZE place) thing → ⊥) }
+    ensures err { OnErr result ((thing : Option T) → Holds T.is_in (slot_at bytes.now T.SIZE place) thing → ⊥) }
 {
     let at = place * T::SIZE;
-    T::read(&bytes[at..at + T::SIZE])
+    read(&bytes[at..at + T::SIZE])
 }
 
 // Makes the slot at a place of a page hold this.
 fn write_at<T: Slot>(thing: &Option<T>, bytes: &mut [u8; 256], place: usize)
     requires place { place < 256 / T.SIZE }
     requires roomy { IfSome thing.now T.is_roomy }
-    ensures put { T.holds (slot_at bytes.new T.SIZE place) thing.now }
+    ensures put { Holds T.is_in (slot_at bytes.new T.SIZE place) thing.now }
     ensures others { (other : ℕ) → other < 256 / T.SIZE → other ≢ place → slot_at bytes.new T.SIZE other ≡ slot_at bytes.old T.SIZE other }
 {
     let at = place * T::SIZE;
-    T::write(thing, &mut bytes[at..at + T::SIZE]);
+    write(thing, &mut bytes[at..at + T::SIZE]);
 }
 
 // Makes the slot at a place of a page hold what is in this slot of a list, past whose end all are free.
 fn write_held<T: Slot>(slots: &[Option<T>], slot: usize, bytes: &mut [u8; 256], place: usize)
     requires place { place < 256 / T.SIZE }
     requires roomy { All T.is_roomy (used slots.now) }
-    ensures put { T.holds (slot_at bytes.new T.SIZE place) (held slots.now slot) }
+    ensures put { Holds T.is_in (slot_at bytes.new T.SIZE place) (held slots.now slot) }
     ensures others { (other : ℕ) → other < 256 / T.SIZE → other ≢ place → slot_at bytes.new T.SIZE other ≡ slot_at bytes.old T.SIZE other }
 {
     match slots.get(slot) {
@@ -61,10 +62,10 @@ fn read_page<T: Slot>(
     number: usize,
 ) -> Result<(), BadSlot>
     requires { number * (256 / T.SIZE) + 256 / T.SIZE ≤ length slots.old }
-    ensures ok { OnOk result (HoldsPage T.holds T.SIZE bytes.now number slots.new) }
+    ensures ok { OnOk result (HoldsPage (Holds T.is_in) T.SIZE bytes.now number slots.new) }
     ensures read_each { OnOk result ((place : ℕ) → place < 256 / T.SIZE → IfSome (held slots.new (number * (256 / T.SIZE) + place)) T.is_read) }
     ensures before { (slot : ℕ) → slot < number * (256 / T.SIZE) → held slots.new slot ≡ held slots.old slot }
-    ensures err { OnErr result ((place : ℕ) × (place < 256 / T.SIZE) × ((thing : Option T) → T.holds (slot_at bytes.now T.SIZE place) thing → ⊥)) }
+    ensures err { OnErr result ((place : ℕ) × (place < 256 / T.SIZE) × ((thing : Option T) → Holds T.is_in (slot_at bytes.now T.SIZE place) thing → ⊥)) }
 {
     let each = 256 / T::SIZE;
     for place in 0..each {
@@ -96,11 +97,11 @@ pub fn read_slots<F: Flash, T: Slot>(
     requires none { store.old.staged ≡ [] }
     requires whole { length slots.old % (256 / T.SIZE) ≡ 0 }
     requires range { T.FIRST * (256 / T.SIZE) + length slots.old ≤ STORE_PAGES * (256 / T.SIZE) }
-    ensures ok { F.tells → OnOk result (AreHeld T.holds (slot_from (store_page (F.pages store.old.flash)) T.FIRST T.SIZE) (length slots.new) slots.new) }
+    ensures ok { F.tells → OnOk result (AreHeld (Holds T.is_in) (slot_from (store_page (F.pages store.old.flash)) T.FIRST T.SIZE) (length slots.new) slots.new) }
     ensures read_each { OnOk result (All T.is_read (used slots.new)) }
     ensures read { IsRead F.Flash store.old store.new }
     ensures err { IfErr result (SlotsFail F.tells (F.faults store.old.flash) (F.faults store.new.flash)
-        ((slot : ℕ) × (slot < length slots.old) × ((thing : Option T) → T.holds (slot_from (store_page (F.pages store.old.flash)) T.FIRST T.SIZE slot) thing → ⊥))) }
+        ((slot : ℕ) × (slot < length slots.old) × ((thing : Option T) → Holds T.is_in (slot_from (store_page (F.pages store.old.flash)) T.FIRST T.SIZE slot) thing → ⊥))) }
 {
     for number in 0..slots.len() / (256 / T::SIZE) {
         let page = read_store(store, T::FIRST + number as u16)?;
@@ -119,7 +120,7 @@ pub fn stage_slots<F: Flash, T: Slot>(store: &mut PageStore<F>, slots: &[Option<
     requires roomy { All T.is_roomy (used slots.now) }
     requires frame { IsSome (staged store.old.staged (T.FIRST + slot / (256 / T.SIZE))) ⊎ (length store.old.staged < FRAMES) }
     ensures { (page : PageOf) × (store.new ≡ record store.old { staged = with_page store.old.staged (T.FIRST + slot / (256 / T.SIZE)) page })
-        × HoldsPage T.holds T.SIZE page.bytes (slot / (256 / T.SIZE)) slots.now }
+        × HoldsPage (Holds T.is_in) T.SIZE page.bytes (slot / (256 / T.SIZE)) slots.now }
 {
     let number = usize::from(slot) / (256 / T::SIZE);
     let page = Page {
@@ -132,7 +133,7 @@ pub fn stage_slots<F: Flash, T: Slot>(store: &mut PageStore<F>, slots: &[Option<
 fn page_of<T: Slot>(slots: &[Option<T>], number: usize) -> [u8; 256]
     requires range { IsStorePage number }
     requires roomy { All T.is_roomy (used slots.now) }
-    ensures { HoldsPage T.holds T.SIZE result number slots.now }
+    ensures { HoldsPage (Holds T.is_in) T.SIZE result number slots.now }
 {
     let mut bytes = [0; 256];
     let each = 256 / T::SIZE;
@@ -151,7 +152,7 @@ pub fn write_slots<F: Flash, T: Slot>(
     requires whole { count % (256 / T.SIZE) ≡ 0 }
     requires range { T.FIRST * (256 / T.SIZE) + count ≤ STORE_PAGES * (256 / T.SIZE) }
     requires roomy { All T.is_roomy (used slots.now) }
-    ensures held { F.tells → OnOk result (AreHeld T.holds (slot_from (store_in (slice_get (F.pages flash.new))) T.FIRST T.SIZE) count slots.now) }
+    ensures held { F.tells → OnOk result (AreHeld (Holds T.is_in) (slot_from (store_in (slice_get (F.pages flash.new))) T.FIRST T.SIZE) count slots.now) }
     ensures others { F.tells → (page : ℕ) → (page < T.FIRST) ⊎ (STORE_PAGES ≤ page) → slice_get (F.pages flash.new) page ≡ slice_get (F.pages flash.old) page }
     ensures cause { HasCause (F.faults flash.old) (F.faults flash.new) result }
 {

@@ -1,13 +1,13 @@
 use Rattle.std.proofs.Common.{◌∙◌, subst, rules, arith}
 use Rattle.std.proofs.lemmas.Grind.{common_steps}
-use Rattle.rec_store.proofs.key_slot.write_used.Goals as goal
+use Rattle.rec_store.proofs.key_slot.KeyRecSlot.write_used.Goals as goal
 use Rattle.rec_store.proofs.Kept.{bytes_kept, counted}
 use Rattle.rec_store.specs.Bytes.{HasBytesAt}
 use Rattle.card_types.specs.Represents.{keeps_counter}
 
 pub returns : goal.returns
 returns c =
-    let key = c.args.key.now in
+    let key = c.args.self.now in
     let put = c.put_bytes.ensures in
     let last = c.put_u24.ensures in
     let e = c.deref.ensures.0 in

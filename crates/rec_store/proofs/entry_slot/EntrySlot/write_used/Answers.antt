@@ -1,6 +1,6 @@
 use Rattle.std.proofs.Common.{◌≡◌, ◌<◌, ℕ, ◌∙◌, ap, get_or, length, length-set, subst, arith}
 use Rattle.std.proofs.lemmas.Grind.{common_steps}
-use Rattle.rec_store.proofs.entry_slot.write_used.Goals as goal
+use Rattle.rec_store.proofs.entry_slot.EntrySlot.write_used.Goals as goal
 use Rattle.rec_store.proofs.Kept.{bytes_kept}
 use Rattle.rec_store.specs.Bytes.{HasBytesAt}
 
