@@ -1,53 +1,24 @@
 -- What is above what after a change, over any steps and of a registry.
-use Rattle.std.proofs.Common.{◌≡◌, ◌≢◌, ◌⊎◌, inl, inr, ℕ, true, List, [], ◌∷◌, Option, None, Some, refl, ap, sym, subst, ◌∙◌}
+use Rattle.std.proofs.Common.{◌≡◌, ◌≢◌, ◌⊎◌, inl, inr, ℕ, true, List, Option, None, Some, refl, ap, sym, subst, ◌∙◌}
 use Rattle.std.specs.Prelude.{◌↔◌, IsSome, MatchOption}
-use Rattle.std.specs.Option.{option_map}
-use Rattle.std.proofs.lemmas.List.Elements.{All-contains}
 use Rattle.card_types.proofs.AddedThing.{new_step, other_domain}
 use Rattle.card_types.proofs.AddedThing as added
-use Rattle.card_types.proofs.LeastOfList.{found_fits}
 use Rattle.card_types.proofs.MovedThing.{step_thing}
 use Rattle.card_types.proofs.NamedThings.{aid_cases, domain_leads}
 use Rattle.card_types.proofs.RemovedThing.{none_steps}
-use Rattle.card_types.specs.Aid.{same_aid}
 use Rattle.card_types.specs.ChangeLaws.{IsOfCard, MayAddEntry, MayMove}
-use Rattle.card_types.specs.Hierarchy.{IsPath}
 use Rattle.card_types.specs.Registry.{Entry, Registry, domain_of, entry_named, is_domain}
 use Rattle.card_types.specs.RegistryChange.{IsEntryAdded, moved, with_entries, without_entry}
-use Rattle.card_types.specs.Well.{IsDomainNamed, IsWellEntry}
+use Rattle.card_types.specs.Well.{IsDomainNamed}
 use Rattle.domain_tree.proofs.DomainsStay.{domains_after_change, domains_after_entry, domains_after_move}
 use Rattle.domain_tree.proofs.LinesStay.{above_while, same_above}
-use Rattle.domain_tree.proofs.Paths.{path_on_line, root_alone}
+use Rattle.domain_tree.proofs.Paths.{above_step, path_on_line, root_alone, step_above}
+use Rattle.domain_tree.proofs.Stepped.{stepped}
 use Rattle.domain_tree.specs.Above.{Above, AboveAdded, AboveChanged, AboveMoved, AboveOthersOfAdded, AboveOthersOfMoved, AboveRemoved, NoneAboveRoot}
-
-module _ {A : Type 0} where
-  -- above one that steps to another are that one and those above it
-  pub above_step : (step : A → Option A) (cases : (x y : A) → (x ≡ y) ⊎ (x ≢ y)) (a b next : A) → step b ≡ Some next → Above step a b → (a ≡ next) ⊎ Above step a next
-  above_step step cases a b next steps above = by above.path above.leads
-    where
-      by : (path : List A) → IsPath step b path a → (a ≡ next) ⊎ Above step a next
-      by [] leads = absurd (above.other (sym leads))
-      by (first ∷ path) leads =
-          (let same : first ≡ next = (let here = leads.0 in cc) in
-          elim (cases a next) [
-            | inl alike ↦ inl alike
-            | inr other ↦ inr (record { other = other; path = path; leads = subst (λ (n : A). IsPath step n path a) same leads.1 })
-          ])
-
-  step_above : (step : A → Option A) (a b next : A) → step b ≡ Some next → a ≢ b → (a ≡ next) ⊎ Above step a next → Above step a b
-  step_above step a b next steps other (inl same) = record { other = other; path = next ∷ []; leads = (steps, sym same) }
-  step_above step a b next steps other (inr above) = record { other = other; path = next ∷ above.path; leads = (steps, above.leads) }
 
 -- a step leads to a domain that is there
 pub step_to_domain : (registry : Registry) → IsOfCard registry → (x next : List ℕ) → domain_of registry x ≡ Some next → IsDomainNamed registry next
-step_to_domain registry of x next steps = by (entry_named registry x) refl steps
-  where
-    by : (o : Option Entry) → entry_named registry x ≡ o → option_map (λ (e : Entry). e.domain) o ≡ Some next → IsDomainNamed registry next
-    by None at on = cc
-    by (Some entry) at on =
-        (let up : entry.domain ≡ next = cc in
-        subst (IsDomainNamed registry) up
-        (All-contains (IsWellEntry registry) registry.entries entry of.well.entries (found_fits (λ (e : Entry). same_aid e.aid x) registry.entries entry at).0).domain)
+step_to_domain registry of x next steps = (let entry = stepped registry of x next steps in subst (IsDomainNamed registry) entry.2 entry.3.domain)
 
 module _ (entry : Entry) (before after : Registry) (of : IsOfCard before) (may : MayAddEntry before entry) (is : IsEntryAdded entry before after) where
   abbrev with_entry : Registry

@@ -10,7 +10,7 @@ use Rattle.card_types.proofs.Lines.{line_steps}
 use Rattle.domain_tree.specs.Above.{Above, IsFirstAbove, NoneAbove}
 use Rattle.domain_tree.specs.Slots.{IsFreeOfLoops}
 use Rattle.domain_tree.proofs.LineLength.{line_length}
-use Rattle.domain_tree.proofs.Paths.{lead_to_each_other, path_more, root_alone}
+use Rattle.domain_tree.proofs.Paths.{above_step, lead_to_each_other, path_more, root_alone}
 
 -- below what is above something there is a step
 pub steps_from : {A : Type 0} (step : A → Option A) (a b : A) → Above step a b → (next : A) × (step b ≡ Some next)
@@ -23,16 +23,7 @@ steps_from {A} step a b above = by above.path above.leads
 module _ (step : ℕ → Option ℕ) where
   -- what is above one is the next or above the next
   pub above_next : (a b next : ℕ) → step b ≡ Some next → Above step a b → (a ≡ next) ⊎ Above step a next
-  above_next a b next steps above = by above.path above.leads
-    where
-      by : (path : List ℕ) → IsPath step b path a → (a ≡ next) ⊎ Above step a next
-      by [] leads = absurd (above.other (sym leads))
-      by (first ∷ path) leads =
-          (let same : first ≡ next = (let on = leads.0 in cc) in
-          elim (cases_eq a next) [
-            | inl alike ↦ inl alike
-            | inr other ↦ inr (record { other = other; path = path; leads = subst (λ (n : ℕ). IsPath step n path a) same leads.1 })
-          ])
+  above_next a b next steps above = above_step step cases_eq a b next steps above
 
   -- after the first the line is shorter
   pub line_behind : (from next : ℕ) (line : List ℕ) → IsLine step from line → step from ≡ Some next → next ≢ from

@@ -1,20 +1,18 @@
 -- Of two that are above one thing, one is above the other, and none is above what is above it.
 use Rattle.std.proofs.Common.{◌≡◌, ◌≢◌, ◌⊎◌, inl, inr, ℕ, List, [], ◌∷◌, Option, None, Some, refl, sym, subst}
-use Rattle.std.specs.Option.{option_map}
 use Rattle.std.specs.List.{list_any}
 use Rattle.std.proofs.lemmas.Bool.{cases_Bool}
-use Rattle.std.proofs.lemmas.List.Elements.{All-contains}
 use Rattle.std.proofs.lemmas.Map.Made.{is_member-Decides}
-use Rattle.card_types.proofs.LeastOfList.{found_fits}
 use Rattle.card_types.proofs.NamedThings.{aid_cases}
 use Rattle.card_types.proofs.SameAid.{same_aid_decides}
 use Rattle.card_types.specs.Aid.{same_aid}
 use Rattle.card_types.specs.ChangeLaws.{IsOfCard}
 use Rattle.card_types.specs.Hierarchy.{IsPath}
-use Rattle.card_types.specs.Registry.{Entry, Registry, domain_of, entry_named}
-use Rattle.card_types.specs.Well.{IsWellEntry, LeadsToRoot}
+use Rattle.card_types.specs.Registry.{Registry, domain_of}
+use Rattle.card_types.specs.Well.{LeadsToRoot}
 use Rattle.domain_tree.proofs.Climb.{steps_from}
 use Rattle.domain_tree.proofs.Paths.{lead_to_each_other, path_joined, path_on_line, path_to_member}
+use Rattle.domain_tree.proofs.Stepped.{stepped}
 use Rattle.domain_tree.specs.Above.{Above}
 use Rattle.domain_tree.specs.LineLaws.{AboveCompared, AboveDecided, AboveFurther, NotAboveEachOther}
 
@@ -42,14 +40,7 @@ above_compared registry a b c first second = compared (domain_of registry) aid_c
 
 -- what steps to anything leads to a root
 pub step_leads : (registry : Registry) → IsOfCard registry → (x next : List ℕ) → domain_of registry x ≡ Some next → LeadsToRoot registry x
-step_leads registry of x next steps = by (entry_named registry x) refl steps
-  where
-    by : (o : Option Entry) → entry_named registry x ≡ o → option_map (λ (e : Entry). e.domain) o ≡ Some next → LeadsToRoot registry x
-    by None at on = cc
-    by (Some entry) at on =
-        (let found = found_fits (λ (e : Entry). same_aid e.aid x) registry.entries entry at in
-        subst (LeadsToRoot registry) ((same_aid_decides entry.aid x).0 found.1)
-        (All-contains (IsWellEntry registry) registry.entries entry of.well.entries found.0).line)
+step_leads registry of x next steps = (let entry = stepped registry of x next steps in subst (LeadsToRoot registry) entry.1 entry.3.line)
 
 -- two that lead to each other are one
 pub both_ways : (registry : Registry) → IsOfCard registry → (a b : List ℕ) (up down : List (List ℕ)) → IsPath (domain_of registry) a up b → IsPath (domain_of registry) b down a → a ≡ b

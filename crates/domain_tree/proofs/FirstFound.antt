@@ -4,9 +4,8 @@ use Rattle.card_types.proofs.NamedThings.{aid_cases, domain_leads}
 use Rattle.card_types.specs.ChangeLaws.{IsOfCard}
 use Rattle.card_types.specs.Hierarchy.{IsLine}
 use Rattle.card_types.specs.Registry.{Registry, domain_of}
-use Rattle.domain_tree.proofs.AboveChanges.{above_step}
 use Rattle.domain_tree.proofs.Compared.{above_further, not_above_each_other}
-use Rattle.domain_tree.proofs.Paths.{root_alone}
+use Rattle.domain_tree.proofs.Paths.{above_step, root_alone}
 use Rattle.domain_tree.specs.Above.{Above, IsFirstAbove, NoneAbove}
 use Rattle.domain_tree.specs.LineLaws.{FirstAboveDecided}
 

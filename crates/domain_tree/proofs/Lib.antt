@@ -8,4 +8,5 @@ pub mod LineLength
 pub mod LinesStay
 pub mod OnLine
 pub mod Paths
+mod Stepped
 pub mod FirstFound

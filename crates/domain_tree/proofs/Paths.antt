@@ -107,3 +107,21 @@ module _ {A : Type 0} (step : A → Option A) where
   off_line from other line is apart not_above there =
       let path = path_to_member from line other is there in
       not_above (record { other = λ same. apart (sym same); path = path.0; leads = path.1 })
+
+module _ {A : Type 0} where
+  -- above one that steps to another are that one and those above it
+  pub above_step : (step : A → Option A) (cases : (x y : A) → (x ≡ y) ⊎ (x ≢ y)) (a b next : A) → step b ≡ Some next → Above step a b → (a ≡ next) ⊎ Above step a next
+  above_step step cases a b next steps above = by above.path above.leads
+    where
+      by : (path : List A) → IsPath step b path a → (a ≡ next) ⊎ Above step a next
+      by [] leads = absurd (above.other (sym leads))
+      by (first ∷ path) leads =
+          (let same : first ≡ next = (let here = leads.0 in cc) in
+          elim (cases a next) [
+            | inl alike ↦ inl alike
+            | inr other ↦ inr (record { other = other; path = path; leads = subst (λ (n : A). IsPath step n path a) same leads.1 })
+          ])
+
+  pub step_above : (step : A → Option A) (a b next : A) → step b ≡ Some next → a ≢ b → (a ≡ next) ⊎ Above step a next → Above step a b
+  step_above step a b next steps other (inl same) = record { other = other; path = next ∷ []; leads = (steps, sym same) }
+  step_above step a b next steps other (inr above) = record { other = other; path = next ∷ above.path; leads = (steps, above.leads) }
