@@ -6,12 +6,9 @@ ghost use Rattle.card_check.specs.IsCard.{HasPages, IsCard};
 ghost use Rattle.card_check.specs.LoadPages.{HasPageNumbers};
 ghost use Rattle.card_types.specs.Represents.{used};
 
-use crate::entries::has_card_entries;
-use crate::files::has_card_files;
-use crate::keys::has_card_keys;
 use crate::load_pages::have_load_pages;
-use crate::objects::has_card_objects;
 use crate::room::{has_factory_file, has_issuer, has_room};
+use crate::slots::all_admitted;
 use card_types::Tables;
 
 /// Whether the tables are a card's. Of the load pages it matters only that each has 256 bytes.
@@ -29,9 +26,9 @@ fn has_card_slots(tables: &Tables) -> bool
     has_room(tables)
         && has_issuer(tables)
         && has_factory_file(tables)
-        && has_card_entries(tables)
-        && has_card_files(tables)
+        && all_admitted(&tables.entries, tables)
+        && all_admitted(&tables.files, tables)
         && have_load_pages(&tables.files)
-        && has_card_keys(tables)
-        && has_card_objects(tables)
+        && all_admitted(&tables.keys, tables)
+        && all_admitted(&tables.objects, tables)
 }

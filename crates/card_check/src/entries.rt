@@ -1,24 +1,16 @@
 //! What is asked of an application or a security domain.
 
 ghost use Rattle.std.specs.Prelude.{◌≡◌, ◌↔◌, IsTrue};
-ghost use Rattle.card_check.specs.CardSlots.{HasKind, HasRights, IsCardEntry, has_domain_right as has_domain_right_of, EachSlot};
+ghost use Rattle.card_check.specs.CardSlots.{HasKind, HasRights, IsCardEntry, has_domain_right as has_domain_right_of};
 ghost use Rattle.card_types.specs.Represents.{HasSlots};
 ghost use Rattle.card_types.specs.Privileges.{IsNamed};
 
 use crate::domains::{is_domain, leads_to_root};
 use crate::names::is_alone;
 use crate::room::FACTORY_SLOT;
-use crate::slots::{Asks, all_admitted};
+use crate::slots::Asks;
 use bitflags::Flags;
 use card_types::{Entry, FACTORY_MODULE, Found, Life, Privileges, RECEIPT_LIMIT, Tables, in_slot};
-
-/// Whether every entry is one that a card may have.
-pub fn has_card_entries(tables: &Tables) -> bool
-    requires { HasSlots tables.now }
-    ensures { IsTrue result ↔ EachSlot tables.now.entries.items (IsCardEntry tables.now) }
-{
-    all_admitted(&tables.entries, tables)
-}
 
 impl Asks<Entry> for Tables {
     ghost ready = { HasSlots };

@@ -2,14 +2,14 @@
 
 ghost use Rattle.std.specs.Prelude.{◌≡◌, ◌↔◌, ℕ, ◌<◌, ◌≤◌, List, IsTrue, true, length};
 ghost use Rattle.std.specs.List.{count_by};
-ghost use Rattle.card_check.specs.CardSlots.{HasOtherLength, HaveLength, IsCardKey, is_key_of as is_key_by, EachSlot};
+ghost use Rattle.card_check.specs.CardSlots.{HasOtherLength, HaveLength, IsCardKey, is_key_of as is_key_by};
 ghost use Rattle.card_types.specs.Represents.{HasSlots, held, keeps_counter};
 ghost use Rattle.card_types.specs.KeySets.{HasKey, HasKeys};
 ghost use Rattle.card_types.specs.Well.{IsKeyLength, IsKeyName};
 ghost use Rattle.card_types.specs.declared.limits.TheConstants.{COUNTER_LIMIT, KEYS};
 
 use crate::domains::is_domain;
-use crate::slots::{Asks, all_admitted};
+use crate::slots::Asks;
 use card_types::{COUNTER_LIMIT, DOMAIN_KEYS, KEYS, KeyRec, Tables, in_slot, set_of};
 
 /// The highest key version number of a key set.
@@ -20,14 +20,6 @@ const TOKEN_KEY: u8 = 0x70;
 
 /// The key version number of a receipt key.
 const RECEIPT_KEY: u8 = 0x71;
-
-/// Whether every key is one that a card may have.
-pub fn has_card_keys(tables: &Tables) -> bool
-    requires { HasSlots tables.now }
-    ensures { IsTrue result ↔ EachSlot tables.now.keys.items (IsCardKey tables.now) }
-{
-    all_admitted(&tables.keys, tables)
-}
 
 impl Asks<KeyRec> for Tables {
     ghost ready = { HasSlots };

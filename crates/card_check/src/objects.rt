@@ -1,13 +1,13 @@
 //! What is asked of a data object.
 
 ghost use Rattle.std.specs.Prelude.{◌≡◌, ◌↔◌, ℕ, IsTrue, length};
-ghost use Rattle.card_check.specs.CardSlots.{HasObject, IsCardObject, EachSlot};
+ghost use Rattle.card_check.specs.CardSlots.{HasObject, IsCardObject};
 ghost use Rattle.card_types.specs.Represents.{HasSlots};
 ghost use Rattle.card_types.specs.Well.{IsObject};
 ghost use Rattle.card_types.specs.declared.limits.TheConstants.{OBJECTS};
 
 use crate::domains::is_domain;
-use crate::slots::{Asks, all_admitted};
+use crate::slots::Asks;
 use card_types::{OBJECTS, Object, Tables, in_slot};
 
 /// The tag of the Issuer Identification Number.
@@ -24,14 +24,6 @@ const CARD_DATA: u16 = 0x66;
 
 /// The tag of card-specific data.
 const CARD_SPECIFIC: u16 = 0x5F50;
-
-/// Whether every data object is one that a card may have.
-pub fn has_card_objects(tables: &Tables) -> bool
-    requires { HasSlots tables.now }
-    ensures { IsTrue result ↔ EachSlot tables.now.objects.items (IsCardObject tables.now) }
-{
-    all_admitted(&tables.objects, tables)
-}
 
 impl Asks<Object> for Tables {
     ghost ready = { HasSlots };
