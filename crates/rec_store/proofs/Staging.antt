@@ -93,9 +93,9 @@ module _ {T : Type 0} (holds : List ℕ → Option T → Type 0) (old new : ℕ 
   held_apart count things other was slot lt = subst (λ bytes. holds bytes (held things slot)) (sym (slot_apart slot (other slot lt))) (was slot lt)
 
   -- the things in the page, and in the other pages those that were there
-  pub held_anew : (bytes : List ℕ) (count slot : ℕ) (thing : Option T) (things : List (Option T)) → page ≡ first + slot / (256 / size) → new page ≡ bytes → HoldsPage holds size bytes (slot / (256 / size)) (slice_set things slot thing)
+  held_set : (bytes : List ℕ) (count slot : ℕ) (thing : Option T) (things : List (Option T)) → page ≡ first + slot / (256 / size) → new page ≡ bytes → HoldsPage holds size bytes (slot / (256 / size)) (slice_set things slot thing)
       → 0 < 256 / size → AreHeld holds (slot_from old first size) count things → AreHeld holds (slot_from new first size) count (slice_set things slot thing)
-  held_anew bytes count slot thing things is here in_page some was i lt = elim (cases_eq (i / (256 / size)) (slot / (256 / size))) [
+  held_set bytes count slot thing things is here in_page some was i lt = elim (cases_eq (i / (256 / size)) (slot / (256 / size))) [
     | inl same ↦
         (let place : slot / (256 / size) * (256 / size) + i % (256 / size) ≡ i = ap (λ n. n * (256 / size) + i % (256 / size)) (sym same) ∙ whole i in
         let at : slot_from new first size i ≡ slot_at bytes size (i % (256 / size)) = ap (λ n. slot_at (new (first + n)) size (i % (256 / size))) same ∙ ap (λ n. slot_at (new n) size (i % (256 / size))) (sym is) ∙ ap (λ b. slot_at b size (i % (256 / size))) here in
@@ -113,19 +113,25 @@ module _ {T : Type 0} (holds : List ℕ → Option T → Type 0) (old new : ℕ 
       within : (i : ℕ) → i % (256 / size) < 256 / size
       within i = omega (arith, some)
 
+  pub held_anew : (bytes : List ℕ) (count slot n : ℕ) (thing : Option T) (things : List (Option T)) → n ≡ slot → page ≡ first + slot / (256 / size) → new page ≡ bytes → HoldsPage holds size bytes (slot / (256 / size)) (slice_set things n thing)
+      → 0 < 256 / size → AreHeld holds (slot_from old first size) count things → AreHeld holds (slot_from new first size) count (slice_set things n thing)
+  held_anew bytes count slot n thing things same is here in_page some was =
+      subst (λ k. HoldsPage holds size bytes (slot / (256 / size)) (slice_set things k thing) → AreHeld holds (slot_from new first size) count (slice_set things k thing)) (sym same)
+      (λ put. held_set bytes count slot thing things is here put some was) in_page
+
 -- the frame for a page, by the numbers of the staged pages
 pub frame_for : (pool : Pages) (shown : List ℕ) (page : ℕ) → numbers pool ≡ shown → HasFrame shown page → IsSome (staged pool page) ⊎ (length pool < 30)
 frame_for pool shown page is room = frame pool page (subst (λ staged. HasFrame staged page) (sym is) room)
+
+-- what is kept of records
+abbrev pub IsKept : {F : Type 0} → Flash F → Store F → Tables → Type 0
+IsKept device store t = AreRoomy t × (store.settled ≡ true) × NoLoadPage store.staged × (device.tells → store.live ≡ true → HoldsTables Third (current_page store.staged (device.pages store.flash)) t)
 
 -- a store with one page more
 module _ {F : Type 0} (store new : Store F) (page : ℕ) (x : Page) (anew : new ≡ record store { staged = with_page store.staged page x }) where
   pub numbers_anew : (shown : List ℕ) → numbers store.staged ≡ shown → numbers new.staged ≡ with_staged shown page
   numbers_anew shown is = ap (λ (s : Store F). numbers s.staged) anew ∙ staged_numbers store.staged page x ∙ ap (λ staged. with_staged staged page) is
 
-  -- what is kept of records, where it holds the tables
   pub kept_anew : (device : Flash F) (t : Tables) → page < 45 → AreRoomy t → store.settled ≡ true → NoLoadPage store.staged
-      → (device.tells → HoldsTables Third (current_page (with_page store.staged page x) (device.pages store.flash)) t)
-      → AreRoomy t × (new.settled ≡ true) × NoLoadPage new.staged × (device.tells → new.live ≡ true → HoldsTables Third (current_page new.staged (device.pages new.flash)) t)
-  kept_anew device t lt roomy settled none held =
-      subst (λ (s : Store F). AreRoomy t × (s.settled ≡ true) × NoLoadPage s.staged × (device.tells → s.live ≡ true → HoldsTables Third (current_page s.staged (device.pages s.flash)) t)) (sym anew)
-      (roomy, settled, none_loaded store.staged page x lt none, λ told live. held told)
+      → (device.tells → HoldsTables Third (current_page (with_page store.staged page x) (device.pages store.flash)) t) → IsKept device new t
+  kept_anew device t lt roomy settled none held = subst (λ (s : Store F). IsKept device s t) (sym anew) (roomy, settled, none_loaded store.staged page x lt none, λ told live. held told)
