@@ -1,14 +1,16 @@
 -- What tables say after one thing was changed in its slot.
-use Rattle.std.proofs.Common.{◌≡◌, ℕ, List, [], Option, None, Some, refl, ap, sym, subst}
+use Rattle.std.proofs.Common.{◌≡◌, ℕ, List, [], Option, None, Some, refl, ap, sym, subst, ◌∙◌}
 use Rattle.std.specs.Prelude.{Contains, IsSome, unwrap_or}
 use Rattle.std.specs.Option.{option_map}
 use Rattle.card_types.specs.Aid.{aid_order, same_aid}
+use Rattle.card_types.specs.Found.{aid_of}
 use Rattle.card_types.specs.RegistryChange.{IsChanged, IsRemoved, IsReplaced, moved, with_entries, without_file}
 use Rattle.card_types.specs.Registry as registry
 use Rattle.card_types.specs.Registry.{entry_named}
 use Rattle.card_types.specs.Represents.{Represents, domain_aid, entry_of, file_aid, file_of, held}
 use Rattle.card_types.specs.SlotChange.{SetsEntry, SetsFile}
 use Rattle.card_types.specs.Well.{IsWellFile, Well}
+use Rattle.card_types.specs.declared.found.Found.TheVariants as found
 use Rattle.card_types.specs.declared.tables.Entry.{Entry}
 use Rattle.card_types.specs.declared.tables.LoadFile.{LoadFile}
 use Rattle.card_types.specs.declared.tables.Tables.{Tables}
@@ -28,6 +30,10 @@ use Rattle.registry.specs.Removing.{IsUnloaded}
 pub thing_of : {T : Type 0} (o : Option T) → IsSome o → (thing : T) × (o ≡ Some thing)
 thing_of None some = cc
 thing_of (Some thing) some = (thing, refl)
+
+-- what is so of slots that were lent is so of those of the tables
+pub of_lent : {T : Type 0} (P : List (Option T) → Type 0) (slots_of : Tables → List (Option T)) (before tables : Tables) (slots : List (Option T)) → tables ≡ before → slots ≡ slots_of tables → P slots → P (slots_of before)
+of_lent P slots_of before tables slots is lent = subst P (lent ∙ ap slots_of is)
 
 module _ (page : ℕ → List ℕ) (before after : Tables) (said : registry.Registry) (says : Represents page before said) (slot : ℕ) where
   module _ (entry : Entry) (at : held before.entries.items slot ≡ Some entry) where
@@ -61,17 +67,26 @@ module _ (page : ℕ → List ℕ) (before after : Tables) (said : registry.Regi
         cc
 
     -- the entry is in another domain
-    pub entry_moved : Well said → (domain : ℕ) → SetsEntry before after slot (Some (record entry { domain = domain }))
-        → Represents page after (moved said entry.aid (domain_aid before.entries.items domain))
-    entry_moved well domain set =
-        let aid = domain_aid_is before.entries.items slot entry at in
+    pub entry_moved : Well said → (name : List ℕ) → aid_of before (found.Entry slot) ≡ Some name → (domain : ℕ) → SetsEntry before after slot (Some (record entry { domain = domain }))
+        → Represents page after (moved said name (domain_aid before.entries.items domain))
+    entry_moved well name named domain set =
+        let own = ap (option_map (λ (e : Entry). e.aid)) at in
+        let same : entry.aid ≡ name = cc (own, named) in
         let to = domain_aid before.entries.items domain in
         let change : registry.Entry → registry.Entry = λ e. record e { domain = to } in
         let moves = entry_replaced (record entry { domain = domain }) change (λ e. refl) refl refl set in
         let here : Represents page after (with_entries said (λ other. same_aid other entry.aid) change) =
-        subst (λ (a : List ℕ). Represents page after (with_entries said (λ other. same_aid other a) change)) aid moves in
-        subst (λ (files : List registry.LoadFile). Represents page after (record (with_entries said (λ other. same_aid other entry.aid) change) { files = files }))
-        (sym (none_changed (λ (f : registry.LoadFile). f.aid) entry.aid (λ file. record file { domain = to }) said.files (no_file_too well))) here
+        subst (λ (a : List ℕ). Represents page after (with_entries said (λ other. same_aid other a) change)) (domain_aid_is before.entries.items slot entry at) moves in
+        subst (λ (a : List ℕ). Represents page after (moved said a to)) same
+        (subst (λ (files : List registry.LoadFile). Represents page after (record (with_entries said (λ other. same_aid other entry.aid) change) { files = files }))
+        (sym (none_changed (λ (f : registry.LoadFile). f.aid) entry.aid (λ file. record file { domain = to }) said.files (no_file_too well))) here)
+
+  -- the same of an entry in slots that were lent
+  pub lent_replaced : (tables : Tables) (slots : List (Option Entry)) → tables ≡ before → slots ≡ tables.entries.items → (entry : Entry) → held slots slot ≡ Some entry
+      → (new : Entry) (change : registry.Entry → registry.Entry) → ((e : registry.Entry) → (change e).aid ≡ e.aid) → new.aid ≡ entry.aid
+      → entry_of before.entries.items before.files.items new ≡ change (entry_of before.entries.items before.files.items entry) → SetsEntry before after slot (Some new)
+      → Represents page after (with_entries said (λ other. same_aid other (domain_aid before.entries.items slot)) change)
+  lent_replaced tables slots is lent entry there = entry_replaced entry (of_lent (λ (s : List (Option Entry)). held s slot ≡ Some entry) (λ (t : Tables). t.entries.items) before tables slots is lent there)
 
   module _ (file : LoadFile) (at : held before.files.items slot ≡ Some file) where
     abbrev file_view : LoadFile → registry.LoadFile
@@ -87,9 +102,11 @@ module _ (page : ℕ → List ℕ) (before after : Tables) (said : registry.Regi
         none_fits (λ (e : registry.Entry). same_aid e.aid file.aid) said.entries apart entry there ((same_aid_decides entry.aid file.aid).1 alike)
 
     -- the file is in another domain
-    pub file_moved : Well said → (domain : ℕ) → SetsFile before after slot (Some (record file { domain = domain }))
-        → Represents page after (moved said file.aid (domain_aid before.entries.items domain))
-    file_moved well domain set =
+    pub file_moved : Well said → (name : List ℕ) → aid_of before (found.File slot) ≡ Some name → (domain : ℕ) → SetsFile before after slot (Some (record file { domain = domain }))
+        → Represents page after (moved said name (domain_aid before.entries.items domain))
+    file_moved well name named domain set =
+        let own = ap (option_map (λ (f : LoadFile). f.aid)) at in
+        let same : file.aid ≡ name = cc (own, named) in
         let to = domain_aid before.entries.items domain in
         let new : LoadFile = record file { domain = domain } in
         let within = held_within before.files.items slot file at in
@@ -100,8 +117,9 @@ module _ (page : ℕ → List ℕ) (before after : Tables) (said : registry.Regi
         let changed : IsChanged (λ a b. aid_order a.aid b.aid) (option_map file_view (held before.files.items slot)) (Some (file_view new)) said.files files = rw at replaced in
         let here = file_changed page page before after said says slot (Some new) files within set
         (keeps_files_replaced page page before after said says slot file new within set at refl) (λ other f there. refl) changed in
-        subst (λ (entries : List registry.Entry). Represents page after (record said { entries = entries; files = files }))
-        (sym (none_changed (λ (e : registry.Entry). e.aid) file.aid (λ entry. record entry { domain = to }) said.entries (no_entry_too well))) here
+        subst (λ (a : List ℕ). Represents page after (moved said a to)) same
+        (subst (λ (entries : List registry.Entry). Represents page after (record said { entries = entries; files = files }))
+        (sym (none_changed (λ (e : registry.Entry). e.aid) file.aid (λ entry. record entry { domain = to }) said.entries (no_entry_too well))) here)
 
     -- the file is gone
     pub file_removed : IsUnloaded before slot → SetsFile before after slot None → Represents page after (without_file said (file_aid before.files.items slot))

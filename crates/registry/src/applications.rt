@@ -14,6 +14,7 @@ ghost use Rattle.registry.specs.TableLists.{lists_of};
 ghost use Rattle.registry.specs.Pages.{KeepsRoom, StagesChanged, entry_pages};
 ghost use Rattle.registry.specs.Removing.{IsUnloaded, RemovesApplications, entry_file};
 
+use crate::entries::put_entry;
 use crate::owned::{Owned, free_owned};
 use card_types::{ENTRIES, Entry};
 use flash_core::Flash;
@@ -44,7 +45,7 @@ impl Owned for Entry {
     }
 
     fn free<F: Flash>(records: &mut Records<F>, slot: u8) {
-        records.set_entry(slot, None);
+        put_entry(records, slot, None);
     }
 
     ghost some = { lit< tt };

@@ -1,10 +1,11 @@
 //! Entries: they are added, and changed in their slots (GlobalPlatform Card Specification 2.3.1, 6.5).
 
-ghost use Rattle.std.specs.Prelude.{◌≡◌, ◌↔◌, ℕ, List, true, length, Err, IfOk, OnErr, OnOk, IsSome};
+ghost use Rattle.std.specs.Prelude.{◌≡◌, ◌↔◌, ◌<◌, ℕ, List, true, length, Err, IfOk, OnErr, OnOk, IsSome};
 ghost use Rattle.card_types.specs.Search.{NoneFree};
 ghost use Rattle.card_types.specs.Registry.{Registry};
 ghost use Rattle.card_types.specs.RegistryChange.{IsEntryAdded, with_life, with_receipts};
 ghost use Rattle.card_types.specs.Represents.{Represents, domain_aid, entry_of, held};
+ghost use Rattle.card_types.specs.SlotChange.{SetsEntry};
 ghost use Rattle.card_types.specs.Well.{Well};
 ghost use Rattle.card_types.specs.declared.limits.TheConstants.{ENTRIES};
 ghost use Rattle.rec_store.specs.Places.{entry_page};
@@ -18,6 +19,19 @@ use crate::refusal::AddRefusal;
 use card_types::{Entry, LifeMark, first_free, in_slot};
 use flash_core::Flash;
 use rec_store::Records;
+
+/// Changes an entry slot, where there is room for the pages of entries. It commits nothing.
+pub fn put_entry<F: Flash>(records: &mut Records<F>, slot: u8, value: Option<Entry>)
+    requires live { records.old.live ≡ true }
+    requires range { slot < ENTRIES }
+    requires room { HasRoomFor entry_pages records.old.staged }
+    ensures tables { SetsEntry records.old.tables records.new.tables slot value }
+    ensures same { (records.new.flash ≡ records.old.flash) × (records.new.live ≡ true) }
+    ensures staged { records.new.staged ≡ with_staged records.old.staged (entry_page slot) }
+    ensures room { KeepsRoom entry_pages records.old.staged records.new.staged }
+{
+    records.set_entry(slot, value);
+}
 
 /// Puts an application or a security domain, whose AID nothing has, into the first free slot, and answers the slot. It commits
 /// nothing.
@@ -36,7 +50,7 @@ pub fn place_entry<F: Flash>(records: &mut Records<F>, value: Entry) -> u8
     ensures room { KeepsRoom entry_pages records.old.staged records.new.staged }
 {
     let slot = first_free(&records.tables().entries).unwrap();
-    records.set_entry(slot, Some(value));
+    put_entry(records, slot, Some(value));
     slot
 }
 
@@ -76,7 +90,7 @@ pub fn set_life<F: Flash>(records: &mut Records<F>, slot: u8, life: LifeMark)
 {
     let mut entry = *in_slot(&records.tables().entries, slot).unwrap();
     entry.life = life;
-    records.set_entry(slot, Some(entry));
+    put_entry(records, slot, Some(entry));
 }
 
 /// Sets the number of the last receipt of the entry in a slot. It commits nothing.
@@ -93,5 +107,5 @@ pub fn set_receipts<F: Flash>(records: &mut Records<F>, slot: u8, number: u16)
 {
     let mut entry = *in_slot(&records.tables().entries, slot).unwrap();
     entry.receipts = number;
-    records.set_entry(slot, Some(entry));
+    put_entry(records, slot, Some(entry));
 }

@@ -15,6 +15,7 @@ ghost use Rattle.registry.specs.Pages.{KeepsRoom, StagesChanged, entry_pages};
 ghost use Rattle.registry.specs.Setting.{ChangesEntry};
 ghost use Rattle.registry.specs.Tree.{IsInTree, LocksTree, with_lock};
 
+use crate::entries::put_entry;
 use card_types::{ENTRIES, Entry, in_slot};
 use domain_tree::above;
 use flash_core::Flash;
@@ -52,7 +53,7 @@ fn lock_slot<F: Flash>(records: &mut Records<F>, slot: u8, locked: bool)
     ensures room { KeepsRoom entry_pages records.old.staged records.new.staged }
 {
     if let Some(entry) = marked(&records.tables().entries, slot, locked) {
-        records.set_entry(slot, Some(entry));
+        put_entry(records, slot, Some(entry));
     }
 }
 

@@ -10,6 +10,7 @@ ghost use Rattle.rec_store.specs.Room.{HasRoomFor, with_staged};
 ghost use Rattle.registry.specs.Pages.{KeepsRoom, thing_page, thing_pages};
 ghost use Rattle.registry.specs.Setting.{Moves};
 
+use crate::entries::put_entry;
 use card_types::{Found, in_slot};
 use flash_core::Flash;
 use rec_store::Records;
@@ -31,7 +32,7 @@ pub fn move_to<F: Flash>(records: &mut Records<F>, thing: Found, domain: u8)
         Found::Entry(slot) => {
             let mut entry = *in_slot(&records.tables().entries, slot).unwrap();
             entry.domain = domain;
-            records.set_entry(slot, Some(entry));
+            put_entry(records, slot, Some(entry));
         }
         Found::File(slot) => {
             let mut file = *in_slot(&records.tables().files, slot).unwrap();

@@ -5,31 +5,20 @@ use Rattle.card_types.specs.Represents.{held}
 use Rattle.card_types.specs.declared.tables.Entry.{Entry}
 use Rattle.card_types.specs.declared.tables.Tables.{Tables}
 use Rattle.rec_store.specs.Places.{entry_page}
-use Rattle.registry.specs.Pages.{entry_pages}
-use Rattle.registry.proofs.Frames.{among_entry_pages, frame_of, keeps_staged}
 use Rattle.registry.proofs.Staging.{staged_before}
 use Rattle.registry.proofs.locking.lock_slot.Goals as goal
-
-pub set_entry-requires-clause-frame : goal.set_entry-requires-clause-frame
-set_entry-requires-clause-frame g c =
-    frame_of entry_pages c.args.records.now.staged (entry_page c.args.slot) (among_entry_pages c.args.slot c.requires.range) c.requires.room
 
 pub returns-in-Some-clause-staged : goal.returns-in-Some-clause-staged
 returns-in-Some-clause-staged g c page there =
     let slot = c.args.slot in
     let before = c.args.records.now in
-    let after = c.set_entry.new.self.tables.entries.items in
+    let after = c.put_entry.new.records.tables.entries.items in
     let entry = c.in-Some.entry in
     let slots : c.deref.result.now ≡ before.tables.entries.items = c.deref.ensures.value ∙ ap (λ (t : Tables). t.entries.items) c.tables.ensures.tables in
     let low : slot < length before.tables.entries.items = omega (arith, c.requires.range, c.tables.ensures.roomy.slots.entries) in
     let set : held after slot ≡ Some entry =
-    ap (λ (s : List (Option Entry)). held s slot) c.set_entry.ensures.tables.entries ∙ get_or-set_same before.tables.entries.items slot (Some entry) None low in
-    elim (staged_before before.staged (entry_page slot) page (subst (λ (s : List ℕ). Contains s page) c.set_entry.ensures.staged there)) [
+    ap (λ (s : List (Option Entry)). held s slot) c.put_entry.ensures.tables.entries ∙ get_or-set_same before.tables.entries.items slot (Some entry) None low in
+    elim (staged_before before.staged (entry_page slot) page (subst (λ (s : List ℕ). Contains s page) c.put_entry.ensures.staged there)) [
       | inl old ↦ inl old
       | inr new ↦ inr (slot, new, λ same. c.in-Some.ensures.some.1 (ap (λ (s : List (Option Entry)). held s slot) slots ∙ sym same ∙ set))
     ]
-
-pub returns-in-Some-clause-room : goal.returns-in-Some-clause-room
-returns-in-Some-clause-room g c =
-    keeps_staged entry_pages c.args.records.now.staged (entry_page c.args.slot) (among_entry_pages c.args.slot c.requires.range) c.set_entry.new.self.staged
-    c.set_entry.ensures.staged
