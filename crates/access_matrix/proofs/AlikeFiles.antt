@@ -165,9 +165,9 @@ module _ (life : CardLife) (entries : List Entry) (keys : List Key) (counters : 
     setting_back asked SS4 fails = fails
 
     -- whatever was asked for, a rule of the form's own fails alike
-    own_back : (form : JudgedForm) → ((asked : form.Asked) (own : form.Own) → form.fails B asked own → form.fails A asked own) → (rule : Rule)
-        → ((asked : form.Asked) × CommandAsks form B asked × ((own : form.Own) × (form.group own ≡ rule) × form.fails B asked own))
-        → ((asked : form.Asked) × CommandAsks form A asked × ((own : form.Own) × (form.group own ≡ rule) × form.fails A asked own))
+    own_back : (form : JudgedForm) → ((asked : form.Asked) (own : form.own.One) → form.own.fails B asked own → form.own.fails A asked own) → (rule : Rule)
+        → ((asked : form.Asked) × CommandAsks form B asked × ((own : form.own.One) × (form.own.group own ≡ rule) × form.own.fails B asked own))
+        → ((asked : form.Asked) × CommandAsks form A asked × ((own : form.own.One) × (form.own.group own ≡ rule) × form.own.fails A asked own))
     own_back form back rule fails = (fails.0, fails.1, (fails.2.0, fails.2.1, back fails.0 fails.2.0 fails.2.2))
 
     token_back : (form : JudgedForm) → (form.delegation.is_delegated B → form.delegation.is_delegated A) → JudgedFails form B (TK TK3) → JudgedFails form A (TK TK3)

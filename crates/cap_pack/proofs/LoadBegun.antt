@@ -142,7 +142,7 @@ module _ (state : State) (channel : ℕ) (session : Session) (file domain bytes 
   first : IsFirst (install_load.fails admitted) install_load.rules None
   first =
       approval_decides judged_install_load load_install_judgeable admitted given asks (may.into.card, (unlocked, tt)) None
-      (none_first (InstallingLoadFails admitted given) passes judged_install_load.own_rules)
+      (none_first (InstallingLoadFails admitted given) passes judged_install_load.own.order)
       (inr ((λ fails. delegated fails.0), inr ((λ fails. delegated fails.0), inr ((λ fails. delegated fails.0), refl))))
 
   takes : TakesCommand install_load admitted.command

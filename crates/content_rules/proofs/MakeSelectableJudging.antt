@@ -26,10 +26,10 @@ module _ (page : ℕ → List ℕ) (tables : Tables) (domain : ℕ) (admitted : 
   abbrev Fails : RuleMS → Type 0
   Fails = MakingSelectableFails admitted is.given
 
-  pub unmanaged_first : (MayManage admitted → ⊥) → IsFirst Fails managed_selectable.judged.own_rules (Some MS1)
+  pub unmanaged_first : (MayManage admitted → ⊥) → IsFirst Fails managed_selectable.judged.own.order (Some MS1)
   unmanaged_first fails = inl (fails, refl)
 
-  pub unknown_first : MayManage admitted → entry_named admitted.at.registry request.aid ≡ None → IsFirst Fails managed_selectable.judged.own_rules (Some MS2)
+  pub unknown_first : MayManage admitted → entry_named admitted.at.registry request.aid ≡ None → IsFirst Fails managed_selectable.judged.own.order (Some MS2)
   unknown_first manages none =
       inr ((λ fails. fails manages), inl ((ap (entry_named admitted.at.registry) (sym is.aid) ∙ none), refl))
 
@@ -40,7 +40,7 @@ module _ (page : ℕ → List ℕ) (tables : Tables) (domain : ℕ) (admitted : 
     known : Fails MS2 → ⊥
     known none = (let some = there.named in cc)
 
-    pub elsewhere_first : (Above (domain_slot tables.entries.items) domain slot → ⊥) → IsFirst Fails managed_selectable.judged.own_rules (Some MS3)
+    pub elsewhere_first : (Above (domain_slot tables.entries.items) domain slot → ⊥) → IsFirst Fails managed_selectable.judged.own.order (Some MS3)
     elsewhere_first not_above = inr (
       (λ fails. fails manages),
       inr (
@@ -69,7 +69,7 @@ module _ (page : ℕ → List ℕ) (tables : Tables) (domain : ℕ) (admitted : 
           → OfNamed holds (entry_named admitted.at.registry is.given.third)
       of_named holds so = subst (OfNamed holds) (sym (named_as tables admitted.at.registry slot is.given.third there entry at)) so
 
-      pub other_life_first : entry.life ≢ is_installed → IsFirst Fails managed_selectable.judged.own_rules (Some MS4)
+      pub other_life_first : entry.life ≢ is_installed → IsFirst Fails managed_selectable.judged.own.order (Some MS4)
       other_life_first other =
           inr ((λ fails. fails manages), inr (known, inr (below, inl (of_named (λ e. e.life ≢ is_installed) other, refl))))
 
@@ -77,15 +77,15 @@ module _ (page : ℕ → List ℕ) (tables : Tables) (domain : ℕ) (admitted : 
         installed : Fails MS4 → ⊥
         installed fails = of_slot (λ e. e.life ≢ is_installed) fails life
 
-        last : (found : Option RuleMS) → IsFirst Fails (MS5 ∷ []) found → IsFirst Fails managed_selectable.judged.own_rules found
+        last : (found : Option RuleMS) → IsFirst Fails (MS5 ∷ []) found → IsFirst Fails managed_selectable.judged.own.order found
         last found rest = inr ((λ fails. fails manages), inr (known, inr (below, inr (installed, rest))))
 
-        pub others_first : MatchOption request.privileges ⊥ (λ these. entry.privileges ≢ these) → IsFirst Fails managed_selectable.judged.own_rules (Some MS5)
+        pub others_first : MatchOption request.privileges ⊥ (λ these. entry.privileges ≢ these) → IsFirst Fails managed_selectable.judged.own.order (Some MS5)
         others_first differ =
             let others = others_given entry.privileges is.given.privileges request.privileges is.privileges differ in
             last (Some MS5) (inl ((others.0, others.1, of_named (λ e. e.privileges ≢ others.0) others.2), refl))
 
-        pub own_passes : (MatchOption request.privileges ⊥ (λ these. entry.privileges ≢ these) → ⊥) → IsFirst Fails managed_selectable.judged.own_rules None
+        pub own_passes : (MatchOption request.privileges ⊥ (λ these. entry.privileges ≢ these) → ⊥) → IsFirst Fails managed_selectable.judged.own.order None
         own_passes alike =
             last None (inr (
               (λ fails. same_given entry.privileges is.given.privileges request.privileges is.privileges alike fails.0 fails.1

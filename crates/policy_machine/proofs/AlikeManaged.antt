@@ -34,7 +34,7 @@ use Rattle.policy_machine.proofs.Alike.{IsAlike, IsAlikeForm, LooksAtSeen, by_se
 -- What these forms share: their rules do so where both commands are delegated or neither, and where the rules of the form's own do so
 -- for each thing that is asked.
 module _ (form : JudgedForm) (delegated : IsAlike form.delegation.is_delegated)
-    (own : (asked : form.Asked) (rule : form.Own) → IsAlike (λ x. form.fails x asked rule)) where
+    (own : (asked : form.Asked) (rule : form.own.One) → IsAlike (λ x. form.own.fails x asked rule)) where
   asked_alike : (asked : form.Asked) (rule : Rule) → IsAlike (λ x. AskedFails form x asked rule)
   asked_alike asked (TK rule) a b alike fails = (delegated a b alike fails.0, token_alike (form.delegation.approval asked) rule a b alike fails.1)
   asked_alike asked (RC rule) a b alike fails = (delegated a b alike fails.0, receipt_alike rule a b alike fails.1)
@@ -49,8 +49,8 @@ module _ (form : JudgedForm) (delegated : IsAlike form.delegation.is_delegated)
 
 -- also where the rules of the form's own look at what is seen alone
 looking_alike : (form : JudgedForm) → IsAlike form.delegation.is_delegated
-    → ((asked : form.Asked) (rule : form.Own) → LooksAtSeen (λ x. form.fails x asked rule)) → (rule : Rule) → IsAlike (λ x. JudgedFails form x rule)
-looking_alike form delegated looks = judged_alike form delegated (λ asked rule. by_seen (λ x. form.fails x asked rule) (looks asked rule))
+    → ((asked : form.Asked) (rule : form.own.One) → LooksAtSeen (λ x. form.own.fails x asked rule)) → (rule : Rule) → IsAlike (λ x. JudgedFails form x rule)
+looking_alike form delegated looks = judged_alike form delegated (λ asked rule. by_seen (λ x. form.own.fails x asked rule) (looks asked rule))
 
 -- commands of domains with Delegated Management are delegated, or none is
 held : IsAlike (λ x. Holds x delegated_management)

@@ -53,7 +53,7 @@ extradition_judgeable = record {
 
 -- its own rules leave the thing in its new domain
 module _ (admitted : Admitted) (given : InstallData) (of : IsOfCard admitted.at.registry)
-    (own : (rule : RuleEX) → Contains managed_extradition.judged.own_rules rule → ExtraditingFails admitted given rule → ⊥) where
+    (own : (rule : RuleEX) → Contains managed_extradition.judged.own.order rule → ExtraditingFails admitted given rule → ⊥) where
   moved_follows : IsOfCard (moved admitted.at.registry given.third given.first)
   moved_follows =
       moved_keeps admitted.at.registry given.third given.first of

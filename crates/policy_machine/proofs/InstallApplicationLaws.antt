@@ -135,11 +135,11 @@ module _ (admitted : Admitted) (asked : InstallAsked) (passes : (rule : RuleII) 
             (λ same. passes II4 (inr (inr (subst (λ (o : Option LoadSession). MatchOption o ⊥ (λ l. l.aid ≡ asked.given.third)) (sym at) (sym same))))) ∙ free)
 
 -- each of its own rules passes
-pub passing : (admitted : Admitted) (asked : InstallAsked) → ((rule : RuleII) → Contains managed_install.judged.own_rules rule → InstallingFails admitted asked rule → ⊥)
+pub passing : (admitted : Admitted) (asked : InstallAsked) → ((rule : RuleII) → Contains managed_install.judged.own.order rule → InstallingFails admitted asked rule → ⊥)
     → (rule : RuleII) → InstallingFails admitted asked rule → ⊥
 passing admitted asked own rule = own rule (among rule)
   where
-    among : (rule : RuleII) → Contains managed_install.judged.own_rules rule
+    among : (rule : RuleII) → Contains managed_install.judged.own.order rule
     among II1 = (0, omega arith, refl)
     among II2 = (1, omega arith, refl)
     among II3 = (2, omega arith, refl)

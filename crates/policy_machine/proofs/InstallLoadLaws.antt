@@ -63,7 +63,7 @@ no_rule : (admitted : Admitted) → IsFirst (install_load.fails admitted) instal
 no_rule admitted first given asks rule =
     own_pass judged_install_load load_install_judgeable admitted given asks first rule (among rule)
   where
-    among : (rule : RuleIL) → Contains judged_install_load.own_rules rule
+    among : (rule : RuleIL) → Contains judged_install_load.own.order rule
     among IL1 = (0, omega arith, refl)
     among IL2 = (1, omega arith, refl)
     among IL3 = (2, omega arith, refl)

@@ -55,7 +55,7 @@ selectable_judgeable = record {
 
 -- its own rules leave the application selectable
 module _ (admitted : Admitted) (given : InstallData) (of : IsOfCard admitted.at.registry)
-    (own : (rule : RuleMS) → Contains managed_selectable.judged.own_rules rule → MakingSelectableFails admitted given rule → ⊥) where
+    (own : (rule : RuleMS) → Contains managed_selectable.judged.own.order rule → MakingSelectableFails admitted given rule → ⊥) where
   selectable_follows : IsOfCard (with_life admitted.at.registry given.third selectable_life)
   selectable_follows =
       life_keeps admitted.at.registry given.third selectable_life of

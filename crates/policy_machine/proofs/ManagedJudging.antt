@@ -38,7 +38,7 @@ module _ (form : JudgedForm) (judgeable : IsJudgeable form) (admitted : Admitted
   FailsHere = AskedFails form admitted asked
 
   abbrev own_rules : List Rule
-  own_rules = map form.group form.own_rules
+  own_rules = map form.own.group form.own.order
 
   -- a rule fails of the command exactly where it fails for what is asked
   of_command : (rule : Rule) → IsOnAsked rule → FailsHere rule → Fails rule
@@ -56,31 +56,31 @@ module _ (form : JudgedForm) (judgeable : IsJudgeable form) (admitted : Admitted
   on_asked (M rule) own = own
   on_asked rule own = tt
 
-  fails_as : (rule : Rule) → IsOwn rule → (one : form.Own) → form.group one ≡ rule → form.fails admitted asked one → FailsHere rule
+  fails_as : (rule : Rule) → IsOwn rule → (one : form.own.One) → form.own.group one ≡ rule → form.own.fails admitted asked one → FailsHere rule
   fails_as (TK rule) own one is fails = absurd own
   fails_as (RC rule) own one is fails = absurd own
   fails_as rule own one is fails = (one, is, fails)
 
-  as_fails : (rule : Rule) → IsOwn rule → (one : form.Own) → form.group one ≡ rule → FailsHere rule → form.fails admitted asked one
+  as_fails : (rule : Rule) → IsOwn rule → (one : form.own.One) → form.own.group one ≡ rule → FailsHere rule → form.own.fails admitted asked one
   as_fails (TK rule) own one is fails = absurd own
   as_fails (RC rule) own one is fails = absurd own
-  as_fails rule own one is fails = subst (form.fails admitted asked) (judgeable.one_rule fails.0 one (fails.1 ∙ sym is)) fails.2
+  as_fails rule own one is fails = subst (form.own.fails admitted asked) (judgeable.one_rule fails.0 one (fails.1 ∙ sym is)) fails.2
 
-  own_fails : (one : form.Own) → form.fails admitted asked one → Fails (form.group one)
+  own_fails : (one : form.own.One) → form.own.fails admitted asked one → Fails (form.own.group one)
   own_fails one fails =
       let own = judgeable.own one in
-      of_command (form.group one) (on_asked (form.group one) own) (fails_as (form.group one) own one refl fails)
+      of_command (form.own.group one) (on_asked (form.own.group one) own) (fails_as (form.own.group one) own one refl fails)
 
-  fails_own : (one : form.Own) → Fails (form.group one) → form.fails admitted asked one
+  fails_own : (one : form.own.One) → Fails (form.own.group one) → form.own.fails admitted asked one
   fails_own one fails =
       let own = judgeable.own one in
-      as_fails (form.group one) own one refl (for_asked (form.group one) (on_asked (form.group one) own) fails)
+      as_fails (form.own.group one) own one refl (for_asked (form.own.group one) (on_asked (form.own.group one) own) fails)
 
   -- the first of its own, of those on the approval, and of the first rules
-  own_first : (rules : List form.Own) (found : Option form.Own) → IsFirst (form.fails admitted asked) rules found
-      → IsFirst Fails (map form.group rules) (option_map form.group found)
-  own_first [] found first = ap (option_map form.group) first
-  own_first (one ∷ rules) found (inl here) = inl (own_fails one here.0, ap (option_map form.group) here.1)
+  own_first : (rules : List form.own.One) (found : Option form.own.One) → IsFirst (form.own.fails admitted asked) rules found
+      → IsFirst Fails (map form.own.group rules) (option_map form.own.group found)
+  own_first [] found first = ap (option_map form.own.group) first
+  own_first (one ∷ rules) found (inl here) = inl (own_fails one here.0, ap (option_map form.own.group) here.1)
   own_first (one ∷ rules) found (inr later) = inr ((λ fails. later.0 (fails_own one fails)), own_first rules found later.1)
 
   asked_first : (rules : List Rule) → OfEach IsOnAsked rules → (found : Option Rule) → IsFirst FailsHere rules found → IsFirst Fails rules found
@@ -94,28 +94,28 @@ module _ (form : JudgedForm) (judgeable : IsJudgeable form) (admitted : Admitted
 
   module _ (managed : OfEach (λ rule. ManagementFails admitted rule → ⊥) form.first_rules) where
     -- one of its own rules fails first
-    pub own_refuses : (rule : form.Own) → OwnFirst form admitted asked (Some rule)
-        → IsFirst Fails (map M form.first_rules ++ own_rules ++ form.delegation.rules) (Some (form.group rule))
+    pub own_refuses : (rule : form.own.One) → OwnFirst form admitted asked (Some rule)
+        → IsFirst Fails (map M form.first_rules ++ own_rules ++ form.delegation.rules) (Some (form.own.group rule))
     own_refuses rule first =
-        first_within Fails form.delegation.rules (map M form.first_rules ++ own_rules) (form.group rule)
-        (first_behind Fails own_rules (map M form.first_rules) (Some (form.group rule)) (managed_none form.first_rules managed)
-        (own_first form.own_rules (Some rule) first))
+        first_within Fails form.delegation.rules (map M form.first_rules ++ own_rules) (form.own.group rule)
+        (first_behind Fails own_rules (map M form.first_rules) (Some (form.own.group rule)) (managed_none form.first_rules managed)
+        (own_first form.own.order (Some rule) first))
 
     -- where none of them fails, the rules on the approval decide
     pub approval_decides : (found : Option Rule) → OwnFirst form admitted asked None → IsFirst FailsHere form.delegation.rules found
         → IsFirst Fails (map M form.first_rules ++ own_rules ++ form.delegation.rules) found
     approval_decides found none first =
         first_behind Fails form.delegation.rules (map M form.first_rules ++ own_rules) found
-        (first_behind Fails own_rules (map M form.first_rules) None (managed_none form.first_rules managed) (own_first form.own_rules None none))
+        (first_behind Fails own_rules (map M form.first_rules) None (managed_none form.first_rules managed) (own_first form.own.order None none))
         (asked_first form.delegation.rules judgeable.approving found first)
 
   -- where no rule of the command fails, none of its own does for what is asked, and none on its approval
   module _ (first : IsFirst Fails (map M form.first_rules ++ own_rules ++ form.delegation.rules) None) where
-    pub own_pass : (rule : form.Own) → Contains form.own_rules rule → form.fails admitted asked rule → ⊥
+    pub own_pass : (rule : form.own.One) → Contains form.own.order rule → form.own.fails admitted asked rule → ⊥
     own_pass rule there fails =
-        none_fails Fails (map M form.first_rules ++ own_rules ++ form.delegation.rules) (form.group rule)
-        (Contains-append_left (map M form.first_rules ++ own_rules) form.delegation.rules (form.group rule)
-        (Contains-append_right (map M form.first_rules) own_rules (form.group rule) (contains_map form.group form.own_rules rule there)))
+        none_fails Fails (map M form.first_rules ++ own_rules ++ form.delegation.rules) (form.own.group rule)
+        (Contains-append_left (map M form.first_rules ++ own_rules) form.delegation.rules (form.own.group rule)
+        (Contains-append_right (map M form.first_rules) own_rules (form.own.group rule) (contains_map form.own.group form.own.order rule there)))
         first (own_fails rule fails)
 
     pub approval_passes : (rule : Rule) → Contains form.delegation.rules rule → FailsHere rule → ⊥

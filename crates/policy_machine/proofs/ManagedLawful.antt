@@ -27,7 +27,7 @@ pub record IsPassedFor (form : JudgedForm) (admitted : Admitted) (asked : form.A
   pub domain : IsDomainNamed admitted.at.registry (acting admitted)
   pub takes : form.takes admitted.command.p1 admitted.command.p2
   pub asks : CommandAsks form admitted asked
-  pub own : (rule : form.Own) → Contains form.own_rules rule → form.fails admitted asked rule → ⊥
+  pub own : (rule : form.own.One) → Contains form.own.order rule → form.own.fails admitted asked rule → ⊥
 
 -- the card may have this registry then
 pub record MayFollow (admitted : Admitted) (changed : Registry) : Type 0 where

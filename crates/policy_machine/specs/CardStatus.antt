@@ -13,7 +13,7 @@ use Rattle.policy_machine.specs.Refusal.{Refusal, refusal}
 use Rattle.policy_machine.specs.declared.card_status.RuleSC.{RuleSC}
 use Rattle.policy_machine.specs.declared.card_status.RuleSC.TheVariants.{SC1, SC2}
 use Rattle.policy_machine.specs.declared.rule.Rule.TheVariants.{SC}
-use Rattle.policy_machine.specs.ManagedForm.{ManagedForm, to_nobody}
+use Rattle.policy_machine.specs.ManagedForm.{ManagedForm, content_form, ruled}
 use Rattle.card_types.specs.Registry.{Registry}
 use Rattle.policy_machine.specs.declared.management.RuleM.TheVariants.{M2, M3}
 
@@ -66,17 +66,9 @@ pub record CardIsSet (admitted : Admitted) (changed : Registry) : Type 0 where
 -- what is asked for stands in P2 alone
 abbrev pub managed_card_status : ManagedForm
 managed_card_status = record {
-  judged = record {
-    instruction = 0xF0;
-    takes = CardStatusParameters;
-    Asked = Unit {0};
-    asks = λ p1 p2 body asked. Unit {0};
+  judged = record (content_form {Asked = Unit {0}} 0xF0 CardStatusParameters (λ p1 p2 body asked. Unit {0})) {
     first_rules = M2 ∷ M3 ∷ [];
-    Own = RuleSC;
-    group = SC;
-    own_rules = SC1 ∷ SC2 ∷ [];
-    fails = λ admitted asked. SettingCardFails admitted;
-    delegation = to_nobody;
+    own = ruled SC (SC1 ∷ SC2 ∷ []) (λ admitted asked. SettingCardFails admitted);
   };
   becomes = λ admitted asked. CardIsSet admitted;
   reply = λ asked. [];

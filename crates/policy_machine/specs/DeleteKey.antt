@@ -10,8 +10,7 @@ use Rattle.policy_machine.specs.Refusal.{Refusal, refusal}
 use Rattle.policy_machine.specs.declared.delete_key.RuleDK.{RuleDK}
 use Rattle.policy_machine.specs.declared.delete_key.RuleDK.TheVariants.{DK1, DK2}
 use Rattle.policy_machine.specs.declared.rule.Rule.TheVariants.{DK}
-use Rattle.policy_machine.specs.ManagedForm.{ManagedForm, to_nobody}
-use Rattle.policy_machine.specs.declared.management.RuleM.TheVariants.{M1, M2}
+use Rattle.policy_machine.specs.ManagedForm.{ManagedForm, content_form, ruled}
 
 -- P1 is 00; P2 says whether what is related to an object goes with it (80), and makes no difference to a key
 abbrev pub DeleteParameters : ℕ → ℕ → Type 0
@@ -55,18 +54,7 @@ DeletingKeyFails admitted chosen DK2 = IsLastSet admitted chosen.version
 -- The keys go, and the sequence counter of a key set with them.
 abbrev pub managed_delete_key : ManagedForm
 managed_delete_key = record {
-  judged = record {
-    instruction = 0xE4;
-    takes = DeleteParameters;
-    Asked = KeyChosen;
-    asks = λ p1 p2. AsksToDeleteKey;
-    first_rules = M1 ∷ M2 ∷ [];
-    Own = RuleDK;
-    group = DK;
-    own_rules = DK1 ∷ DK2 ∷ [];
-    fails = DeletingKeyFails;
-    delegation = to_nobody;
-  };
+  judged = record (content_form 0xE4 DeleteParameters (λ p1 p2. AsksToDeleteKey)) { own = ruled DK (DK1 ∷ DK2 ∷ []) DeletingKeyFails };
   becomes = λ admitted chosen changed. changed ≡ with_keys admitted.at.registry
       (keys_but (acting admitted) chosen.version admitted.at.registry.keys) (counters_but (acting admitted) chosen.version admitted.at.registry.counters);
   reply = λ chosen. unconfirmed;

@@ -17,8 +17,7 @@ use Rattle.policy_machine.specs.State.{Volatile, channel_at}
 use Rattle.policy_machine.specs.declared.delete_object.RuleDO.{RuleDO}
 use Rattle.policy_machine.specs.declared.delete_object.RuleDO.TheVariants.{DO1, DO2, DO3, DO4}
 use Rattle.policy_machine.specs.declared.rule.Rule.TheVariants.{DO}
-use Rattle.policy_machine.specs.ManagedForm.{ManagedForm}
-use Rattle.policy_machine.specs.declared.management.RuleM.TheVariants.{M1, M2}
+use Rattle.policy_machine.specs.ManagedForm.{ManagedForm, content_form, ruled}
 
 -- what is asked for: the AID of the thing, and what approves it
 pub record DeletionAsked : Type 0 where
@@ -99,16 +98,8 @@ without_thing registry aid = without_file (without_entry (without_applications r
 -- What is to go is gone, and a receipt names the thing.
 abbrev pub managed_delete_object : ManagedForm
 managed_delete_object = record {
-  judged = record {
-    instruction = 0xE4;
-    takes = DeleteParameters;
-    Asked = DeletionAsked;
-    asks = λ p1 p2. AsksToDelete;
-    first_rules = M1 ∷ M2 ∷ [];
-    Own = RuleDO;
-    group = DO;
-    own_rules = DO1 ∷ DO2 ∷ DO3 ∷ DO4 ∷ [];
-    fails = DeletingFails;
+  judged = record (content_form 0xE4 DeleteParameters (λ p1 p2. AsksToDelete)) {
+    own = ruled DO (DO1 ∷ DO2 ∷ DO3 ∷ DO4 ∷ []) DeletingFails;
     delegation = record { is_delegated = IsDelegated; approval = λ asked. asked.approval; about = λ admitted asked. asked.aid ∷ []; rules = delegation_rules };
   };
   becomes = λ admitted asked changed. changed ≡ without_thing admitted.at.registry asked.aid;

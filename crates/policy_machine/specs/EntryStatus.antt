@@ -17,7 +17,7 @@ use Rattle.policy_machine.specs.Refusal.{Refusal, refusal}
 use Rattle.policy_machine.specs.declared.entry_status.RuleSS.{RuleSS}
 use Rattle.policy_machine.specs.declared.entry_status.RuleSS.TheVariants.{SS1, SS2, SS3, SS4}
 use Rattle.policy_machine.specs.declared.rule.Rule.TheVariants.{SS}
-use Rattle.policy_machine.specs.ManagedForm.{ManagedForm, to_nobody}
+use Rattle.policy_machine.specs.ManagedForm.{ManagedForm, content_form, ruled}
 use Rattle.policy_machine.specs.declared.management.RuleM.TheVariants.{M2, M3}
 
 -- P1 names one entry (40), or a security domain with all entries below it (60), and the data field is its AID; P2 says what it
@@ -98,17 +98,9 @@ pub record TreeIsSet (admitted : Admitted) (left : Registry) : Type 0 where
 -- what is asked for stands in P1, P2 and the data field as they are
 abbrev pub managed_entry_status : ManagedForm
 managed_entry_status = record {
-  judged = record {
-    instruction = 0xF0;
-    takes = EntryStatusParameters;
-    Asked = Unit {0};
-    asks = λ p1 p2 body asked. IsAid body;
+  judged = record (content_form {Asked = Unit {0}} 0xF0 EntryStatusParameters (λ p1 p2 body asked. IsAid body)) {
     first_rules = M2 ∷ M3 ∷ [];
-    Own = RuleSS;
-    group = SS;
-    own_rules = SS1 ∷ SS2 ∷ SS3 ∷ SS4 ∷ [];
-    fails = λ admitted asked. SettingStatusFails admitted;
-    delegation = to_nobody;
+    own = ruled SS (SS1 ∷ SS2 ∷ SS3 ∷ SS4 ∷ []) (λ admitted asked. SettingStatusFails admitted);
   };
   becomes = λ admitted asked changed. OneIsSet admitted changed ⊎ TreeIsSet admitted changed;
   reply = λ asked. [];

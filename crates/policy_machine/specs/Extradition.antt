@@ -20,8 +20,7 @@ use Rattle.policy_machine.specs.Refusal.{Refusal, refusal}
 use Rattle.policy_machine.specs.declared.extradition.RuleEX.{RuleEX}
 use Rattle.policy_machine.specs.declared.extradition.RuleEX.TheVariants.{EX1, EX2, EX3, EX4, EX5, EX6, EX7}
 use Rattle.policy_machine.specs.declared.rule.Rule.TheVariants.{EX}
-use Rattle.policy_machine.specs.ManagedForm.{ManagedForm, to_holders}
-use Rattle.policy_machine.specs.declared.management.RuleM.TheVariants.{M1, M2}
+use Rattle.policy_machine.specs.ManagedForm.{ManagedForm, content_form, ruled, to_holders}
 
 abbrev pub ExtraditionParameters : ℕ → ℕ → Type 0
 ExtraditionParameters p1 p2 = (p1 ≡ 0x10) × (p2 ≡ 0x00)
@@ -92,16 +91,8 @@ ExtraditingFails admitted given EX7 =
 -- The thing is in its new domain, and a receipt names the old domain, the thing and the new domain.
 abbrev pub managed_extradition : ManagedForm
 managed_extradition = record {
-  judged = record {
-    instruction = 0xE6;
-    takes = ExtraditionParameters;
-    Asked = InstallData;
-    asks = λ p1 p2. AsksToExtradite;
-    first_rules = M1 ∷ M2 ∷ [];
-    Own = RuleEX;
-    group = EX;
-    own_rules = EX1 ∷ EX2 ∷ EX3 ∷ EX4 ∷ EX5 ∷ EX6 ∷ EX7 ∷ [];
-    fails = ExtraditingFails;
+  judged = record (content_form 0xE6 ExtraditionParameters (λ p1 p2. AsksToExtradite)) {
+    own = ruled EX (EX1 ∷ EX2 ∷ EX3 ∷ EX4 ∷ EX5 ∷ EX6 ∷ EX7 ∷ []) ExtraditingFails;
     delegation = to_holders approval_in (λ admitted given. domain_of_thing admitted.at.registry given.third ∷ given.third ∷ given.first ∷ []);
   };
   becomes = λ admitted given changed. changed ≡ moved admitted.at.registry given.third given.first;

@@ -21,8 +21,7 @@ use Rattle.policy_machine.specs.Refusal.{Refusal, refusal}
 use Rattle.policy_machine.specs.declared.install_application.RuleII.{RuleII}
 use Rattle.policy_machine.specs.declared.install_application.RuleII.TheVariants.{II1, II2, II3, II4, II5, II6, II7}
 use Rattle.policy_machine.specs.declared.rule.Rule.TheVariants.{II}
-use Rattle.policy_machine.specs.ManagedForm.{ManagedForm, to_holders}
-use Rattle.policy_machine.specs.declared.management.RuleM.TheVariants.{M1, M2}
+use Rattle.policy_machine.specs.ManagedForm.{ManagedForm, content_form, ruled, to_holders}
 
 -- P1 is 04, or 0C where the application is made selectable too; P2 is 00
 abbrev pub InstallParameters : ℕ → ℕ → Type 0
@@ -114,16 +113,8 @@ InstallingFails admitted asked II7 = ENTRIES ≤ length admitted.at.registry.ent
 -- The entry is there, and a receipt names the Executable Load File and the application.
 abbrev pub managed_install : ManagedForm
 managed_install = record {
-  judged = record {
-    instruction = 0xE6;
-    takes = InstallParameters;
-    Asked = InstallAsked;
-    asks = λ p1 p2. AsksToInstall;
-    first_rules = M1 ∷ M2 ∷ [];
-    Own = RuleII;
-    group = II;
-    own_rules = II1 ∷ II2 ∷ II3 ∷ II4 ∷ II5 ∷ II6 ∷ II7 ∷ [];
-    fails = InstallingFails;
+  judged = record (content_form 0xE6 InstallParameters (λ p1 p2. AsksToInstall)) {
+    own = ruled II (II1 ∷ II2 ∷ II3 ∷ II4 ∷ II5 ∷ II6 ∷ II7 ∷ []) InstallingFails;
     delegation = to_holders (λ asked. approval_in asked.given) (λ admitted asked. asked.given.first ∷ asked.given.third ∷ []);
   };
   becomes = λ admitted asked. IsEntryAdded (entry_made admitted asked) admitted.at.registry;

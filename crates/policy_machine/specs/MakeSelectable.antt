@@ -17,8 +17,7 @@ use Rattle.policy_machine.specs.Refusal.{Refusal, refusal}
 use Rattle.policy_machine.specs.declared.make_selectable.RuleMS.{RuleMS}
 use Rattle.policy_machine.specs.declared.make_selectable.RuleMS.TheVariants.{MS1, MS2, MS3, MS4, MS5}
 use Rattle.policy_machine.specs.declared.rule.Rule.TheVariants.{MS}
-use Rattle.policy_machine.specs.ManagedForm.{ManagedForm, to_holders}
-use Rattle.policy_machine.specs.declared.management.RuleM.TheVariants.{M1, M2}
+use Rattle.policy_machine.specs.ManagedForm.{ManagedForm, content_form, ruled, to_holders}
 
 abbrev pub MakeSelectableParameters : ℕ → ℕ → Type 0
 MakeSelectableParameters p1 p2 = (p1 ≡ 0x08) × (p2 ≡ 0x00)
@@ -59,16 +58,8 @@ MakingSelectableFails admitted given MS5 =
 -- The application is selectable, and a receipt names it.
 abbrev pub managed_selectable : ManagedForm
 managed_selectable = record {
-  judged = record {
-    instruction = 0xE6;
-    takes = MakeSelectableParameters;
-    Asked = InstallData;
-    asks = λ p1 p2. AsksToMakeSelectable;
-    first_rules = M1 ∷ M2 ∷ [];
-    Own = RuleMS;
-    group = MS;
-    own_rules = MS1 ∷ MS2 ∷ MS3 ∷ MS4 ∷ MS5 ∷ [];
-    fails = MakingSelectableFails;
+  judged = record (content_form 0xE6 MakeSelectableParameters (λ p1 p2. AsksToMakeSelectable)) {
+    own = ruled MS (MS1 ∷ MS2 ∷ MS3 ∷ MS4 ∷ MS5 ∷ []) MakingSelectableFails;
     delegation = to_holders approval_in (λ admitted given. given.third ∷ []);
   };
   becomes = λ admitted given changed. changed ≡ with_life admitted.at.registry given.third (record { life = Selectable; locked = false });

@@ -10,6 +10,7 @@ use Rattle.policy_machine.specs.Management.{ManagementFails}
 use Rattle.policy_machine.specs.Refusal.{IsFirst}
 use Rattle.policy_machine.specs.State.{Effect}
 use Rattle.policy_machine.specs.declared.management.RuleM.{RuleM}
+use Rattle.policy_machine.specs.declared.management.RuleM.TheVariants.{M1, M2}
 use Rattle.policy_machine.specs.declared.rule.Rule.{Rule}
 use Rattle.policy_machine.specs.declared.rule.Rule.TheVariants.{M, RC, TK}
 
@@ -29,20 +30,39 @@ to_holders approval about = record { is_delegated = λ admitted. Holds admitted 
 abbrev pub to_nobody : {Asked : Type 0} → Delegation Asked
 to_nobody = record { is_delegated = λ admitted. ⊥; approval = λ asked. record { before = []; token = [] }; about = λ admitted asked. []; rules = [] }
 
+-- Rules that are a form's own: they are a group of the rules, and are judged in this order; and when one fails for what is asked.
+pub record OwnRules (Asked : Type 0) : Type 1 where
+  pub One : Type 0
+  pub group : One → Rule
+  pub order : List One
+  pub fails : Admitted → Asked → One → Type 0
+
+abbrev pub ruled : {Asked One : Type 0} → (One → Rule) → List One → (Admitted → Asked → One → Type 0) → OwnRules Asked
+ruled group order fails = record { One = _; group = group; order = order; fails = fails }
+
 -- How a form is judged: its instruction byte, the P1 and P2 that it takes, what the data field asks for with these, the rules on the
--- card and the acting domain, which come first, those of its own, which are a group of the rules, with when each fails for what is
--- asked, and its delegation.
+-- card and the acting domain, which come first, those of its own, and its delegation.
 pub record JudgedForm : Type 1 where
   pub instruction : ℕ
   pub takes : (p1 p2 : ℕ) → Type 0
   pub Asked : Type 0
   pub asks : (p1 p2 : ℕ) → List ℕ → Asked → Type 0
   pub first_rules : List RuleM
-  pub Own : Type 0
-  pub group : Own → Rule
-  pub own_rules : List Own
-  pub fails : Admitted → Asked → Own → Type 0
+  pub own : OwnRules Asked
   pub delegation : Delegation Asked
+
+-- A form of card content management with this instruction byte, that takes such P1 and P2 and asks so. The rules M1 and M2 come first;
+-- it has no others yet, and is delegated to nobody.
+abbrev pub content_form : {Asked : Type 0} → ℕ → (ℕ → ℕ → Type 0) → (ℕ → ℕ → List ℕ → Asked → Type 0) → JudgedForm
+content_form instruction takes asks = record {
+  instruction = instruction;
+  takes = takes;
+  Asked = _;
+  asks = asks;
+  first_rules = M1 ∷ M2 ∷ [];
+  own = ruled M [] (λ admitted asked rule. ⊥);
+  delegation = to_nobody;
+}
 
 -- the command asks for this
 abbrev pub CommandAsks : (form : JudgedForm) → Admitted → form.Asked → Type 0
@@ -52,7 +72,7 @@ CommandAsks form admitted = form.asks admitted.command.p1 admitted.command.p2 ad
 abbrev pub AskedFails : (form : JudgedForm) → Admitted → form.Asked → Rule → Type 0
 AskedFails form admitted asked (TK rule) = form.delegation.is_delegated admitted × TokenFails admitted (form.delegation.approval asked) rule
 AskedFails form admitted asked (RC rule) = form.delegation.is_delegated admitted × ReceiptFails admitted rule
-AskedFails form admitted asked rule = (own : form.Own) × (form.group own ≡ rule) × form.fails admitted asked own
+AskedFails form admitted asked rule = (own : form.own.One) × (form.own.group own ≡ rule) × form.own.fails admitted asked own
 
 abbrev pub JudgedFails : JudgedForm → Admitted → Rule → Type 0
 JudgedFails form admitted (M rule) = ManagementFails admitted rule
@@ -60,7 +80,7 @@ JudgedFails form admitted rule = (asked : form.Asked) × CommandAsks form admitt
 
 -- its rules, in the order in which they are judged, and the first that fails, or none
 abbrev pub judged_rules : JudgedForm → List Rule
-judged_rules form = map M form.first_rules ++ map form.group form.own_rules ++ form.delegation.rules
+judged_rules form = map M form.first_rules ++ map form.own.group form.own.order ++ form.delegation.rules
 
 abbrev pub JudgedFirst : JudgedForm → Admitted → Option Rule → Type 0
 JudgedFirst form admitted = IsFirst (JudgedFails form admitted) (judged_rules form)
@@ -104,8 +124,8 @@ abbrev pub command_form : ManagedForm → CommandForm
 command_form form = judged_form form.judged (ManagedConfirms form) (ManagedEffect form)
 
 -- the first of a form's own rules that fails for what is asked, or none
-abbrev pub OwnFirst : (form : JudgedForm) → Admitted → form.Asked → Option form.Own → Type 0
-OwnFirst form admitted asked = IsFirst (form.fails admitted asked) form.own_rules
+abbrev pub OwnFirst : (form : JudgedForm) → Admitted → form.Asked → Option form.own.One → Type 0
+OwnFirst form admitted asked = IsFirst (form.own.fails admitted asked) form.own.order
 
 -- For the code inside. Forms whose commands are judged for what they ask for.
 
@@ -128,6 +148,6 @@ OfEach holds (rule ∷ rules) = holds rule × OfEach holds rules
 -- A data field asks for one thing, and the rules are of their kinds.
 pub record IsJudgeable (form : JudgedForm) : Type 0 where
   pub one_asked : (p1 p2 : ℕ) (body : List ℕ) (a b : form.Asked) → form.asks p1 p2 body a → form.asks p1 p2 body b → a ≡ b
-  pub own : (one : form.Own) → IsOwn (form.group one)
-  pub one_rule : (a b : form.Own) → form.group a ≡ form.group b → a ≡ b
+  pub own : (one : form.own.One) → IsOwn (form.own.group one)
+  pub one_rule : (a b : form.own.One) → form.own.group a ≡ form.own.group b → a ≡ b
   pub approving : OfEach IsOnAsked form.delegation.rules

@@ -30,4 +30,4 @@ pub record IsBroughtFor (form : JudgedForm) (command : Apdu) (asked : form.Asked
 
 -- of the form's own rules this one is the first that fails for what is asked
 abbrev pub OwnRefuses : (form : JudgedForm) → Admitted → form.Asked → Rule → Type 0
-OwnRefuses form admitted asked rule = (own : form.Own) × (form.group own ≡ rule) × OwnFirst form admitted asked (Some own)
+OwnRefuses form admitted asked rule = (own : form.own.One) × (form.own.group own ≡ rule) × OwnFirst form admitted asked (Some own)

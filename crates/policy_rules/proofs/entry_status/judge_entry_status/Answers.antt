@@ -9,7 +9,7 @@ use Rattle.policy_rules.proofs.entry_status.judge_entry_status.Goals as goal
 
 pub returns-in_err-judge_setting-clause-refused : goal.returns-in_err-judge_setting-clause-refused
 returns-in_err-judge_setting-clause-refused c page admitted acts is =
-    setting_handed ((command_form managed_entry_status).fails admitted) (map SS managed_entry_status.judged.own_rules) c.from_residual.result c.in_err-judge_setting.field-0.0 c.from_residual.ensures.1
+    setting_handed ((command_form managed_entry_status).fails admitted) (map SS managed_entry_status.judged.own.order) c.from_residual.result c.in_err-judge_setting.field-0.0 c.from_residual.ensures.1
     (c.in_err-judge_setting.ensures.refused page admitted acts (not_card c.args.request.now admitted is))
 
 pub returns-in-Ok-clause-passed : goal.returns-in-Ok-clause-passed

@@ -15,8 +15,8 @@ pub returns-in_err-judge_management-clause-refused : goal.returns-in_err-judge_m
 returns-in_err-judge_management-clause-refused g c page admitted acts told is =
     let form = g.M.JudgedRequest.form in
     let Fails = JudgedFails form admitted in
-    subst (λ (rules : List RuleM). IfErr c.from_residual.result (λ r. IsFirst Fails (map M rules ++ map form.group form.own_rules ++ form.delegation.rules) (Some r))) (sym g.met.M.JudgedRequest.lawful.first_rules)
-    (management_handed Fails (map form.group form.own_rules ++ form.delegation.rules) c.from_residual.result c.in_err-judge_management.field-0.0 c.from_residual.ensures.1
+    subst (λ (rules : List RuleM). IfErr c.from_residual.result (λ r. IsFirst Fails (map M rules ++ map form.own.group form.own.order ++ form.delegation.rules) (Some r))) (sym g.met.M.JudgedRequest.lawful.first_rules)
+    (management_handed Fails (map form.own.group form.own.order ++ form.delegation.rules) c.from_residual.result c.in_err-judge_management.field-0.0 c.from_residual.ensures.1
     (c.in_err-judge_management.ensures.refused page admitted acts))
 
 pub returns-in_err-found-clause-refused : goal.returns-in_err-found-clause-refused
