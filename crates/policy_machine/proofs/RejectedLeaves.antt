@@ -1,4 +1,4 @@
--- What is so of the channel of a command that the checks of class, channel and instruction let pass, and a general rule behind them rejects.
+-- What is so of the channel of a command that the checks of class, channel and instruction let pass, and a general rule after them rejects.
 use Rattle.std.proofs.Common.{◌≡◌, ℕ, List, false, true, inl, inr, sym, subst}
 use Rattle.std.proofs.lemmas.Bool.{false≢true}
 use Rattle.apdu_core.specs.Apdu.{Apdu, Short}
