@@ -26,7 +26,7 @@ use Rattle.policy_machine.proofs.ChangedFits.{changed_fits}
 use Rattle.policy_machine.proofs.Lawful.{some_same, sound_of_card}
 use Rattle.policy_machine.proofs.ManagedJudging.{own_pass}
 use Rattle.policy_machine.specs.ManagedForm.{IsJudgeable, command_form}
-use Rattle.policy_machine.proofs.ManagedLawful.{IsManagedLawful, IsPassedFor, MayFollow}
+use Rattle.policy_machine.proofs.ManagedLawful.{IsManagedLawful, KeepsCard, undelegated}
 
 -- nothing is above the Issuer Security Domain
 issuer_root : (registry : Registry) → Well registry → domain_of registry ISSUER ≡ Some ISSUER
@@ -82,8 +82,7 @@ pub set_of_card : (admitted : Admitted) → IsAid admitted.command.body → IsFi
 set_of_card admitted field first =
     set_follows admitted (own_pass managed_entry_status.judged entry_status_judgeable admitted tt field first SS2 (1, omega arith, refl))
 
-setting_keeps : (admitted : Admitted) (asked : Unit {0}) (changed : Registry) → IsPassedFor managed_entry_status.judged admitted asked
-    → OneIsSet admitted changed ⊎ TreeIsSet admitted changed → MayFollow admitted changed
+setting_keeps : KeepsCard managed_entry_status
 setting_keeps admitted asked changed passed set = record {
   of = set_follows admitted (passed.own SS2 (1, omega arith, refl)) (sound_of_card passed.sound) changed set;
   fits = set_fits admitted changed admitted.at.volatile set passed.sound.fits;
@@ -151,9 +150,4 @@ set_once admitted a b (inr one) (inl other) = absurd (apart admitted b a other o
 set_once admitted a b (inr one) (inr other) = tree_set admitted a b one other
 
 pub managed_entry_status_lawful : IsManagedLawful managed_entry_status
-managed_entry_status_lawful = record {
-  judgeable = entry_status_judgeable;
-  receipted = λ admitted delegated. absurd delegated;
-  keeps = setting_keeps;
-  one = λ admitted asked a b asks one other. set_once admitted a b one other;
-}
+managed_entry_status_lawful = undelegated managed_entry_status (λ admitted delegated. delegated) entry_status_judgeable setting_keeps (λ admitted asked a b asks one other. set_once admitted a b one other)

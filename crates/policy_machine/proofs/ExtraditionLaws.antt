@@ -1,6 +1,6 @@
 -- The laws of INSTALL [for extradition].
 use Rattle.std.proofs.Common.{◌≡◌, inl, inr, true, Option, None, Some, refl, sym, ◌∙◌, arith}
-use Rattle.std.specs.Prelude.{Contains, MatchOption}
+use Rattle.std.specs.Prelude.{MatchOption}
 use Rattle.std.proofs.lemmas.Bool.{cases_Bool}
 use Rattle.card_types.proofs.MovedThing.{moved_keeps}
 use Rattle.card_types.proofs.NamedThings.{aid_cases}
@@ -16,10 +16,9 @@ use Rattle.policy_machine.specs.declared.extradition.RuleEX.TheVariants.{EX2, EX
 use Rattle.policy_machine.proofs.Lawful.{sound_of_card}
 use Rattle.policy_machine.proofs.LengthFields.{one_data}
 use Rattle.policy_machine.proofs.MovedFits.{moved_fits}
-use Rattle.policy_machine.proofs.ManagedJudging.{own_pass, delegation_asked}
+use Rattle.policy_machine.proofs.ManagedJudging.{OwnPass, own_pass, delegation_asked}
 use Rattle.policy_machine.specs.ManagedForm.{IsJudgeable, command_form}
 use Rattle.policy_machine.proofs.ManagedLawful.{IsManagedLawful, leaves_one, receipt_judged}
-use Rattle.policy_machine.specs.declared.extradition.RuleEX.{RuleEX}
 
 -- what can't be no domain is one
 pub domain_stable : (o : Option Entry) → ((MatchOption o ⊥ (λ entry. is_domain entry ≡ true) → ⊥) → ⊥) → MatchOption o ⊥ (λ entry. is_domain entry ≡ true)
@@ -52,8 +51,7 @@ extradition_judgeable = record {
 }
 
 -- its own rules leave the thing in its new domain
-module _ (admitted : Admitted) (given : InstallData) (of : IsOfCard admitted.at.registry)
-    (own : (rule : RuleEX) → Contains managed_extradition.judged.own.order rule → ExtraditingFails admitted given rule → ⊥) where
+module _ (admitted : Admitted) (given : InstallData) (of : IsOfCard admitted.at.registry) (own : OwnPass managed_extradition.judged admitted given) where
   moved_follows : IsOfCard (moved admitted.at.registry given.third given.first)
   moved_follows =
       moved_keeps admitted.at.registry given.third given.first of

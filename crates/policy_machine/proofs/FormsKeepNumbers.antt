@@ -14,7 +14,7 @@ use Rattle.policy_machine.specs.InstallApplication.{entry_made, managed_install}
 use Rattle.policy_machine.specs.MakeSelectable.{managed_selectable}
 use Rattle.policy_machine.specs.PutKey.{managed_put_key}
 use Rattle.policy_machine.specs.StoreData.{managed_store_data}
-use Rattle.policy_machine.proofs.InstallApplicationLaws.{may_be_added, passing}
+use Rattle.policy_machine.proofs.InstallApplicationLaws.{may_be_added}
 use Rattle.policy_machine.proofs.NumbersKept.{KeepsNumbers, added_numbers, changed_numbers, found_numbers, same_numbers}
 use Rattle.policy_machine.proofs.RisingForms.{KeepsAllNumbers}
 use Rattle.policy_machine.proofs.TreesRemoved.{named_was}
@@ -44,7 +44,7 @@ store_data_numbers admitted elements changed passed put = same_numbers admitted.
 
 pub install_numbers : KeepsAllNumbers managed_install
 install_numbers admitted asked changed passed added =
-    let may = may_be_added admitted asked (passing admitted asked passed.own) passed.asks passed.domain in
+    let may = may_be_added admitted asked passed.own passed.asks passed.domain in
     added_numbers (entry_made admitted asked) admitted.at.registry changed (sound_of_card passed.sound) may.free added
 
 pub selectable_numbers : KeepsAllNumbers managed_selectable

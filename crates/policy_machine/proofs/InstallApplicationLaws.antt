@@ -1,6 +1,6 @@
 -- The laws of INSTALL [for install].
 use Rattle.std.proofs.Common.{◌≡◌, ◌≢◌, inl, inr, ℕ, List, ◌∷◌, Bool, true, false, ◌&&◌, Option, None, Some, refl, sym, ap, subst, ◌∙◌, arith, if◌then◌else◌}
-use Rattle.std.specs.Prelude.{Contains, IsSome, MatchOption, ◌==◌}
+use Rattle.std.specs.Prelude.{IsSome, MatchOption, ◌==◌}
 use Rattle.std.proofs.lemmas.Bool.{cases_Bool}
 use Rattle.std.proofs.lemmas.Bool.Decides.{eqb_tells}
 use Rattle.std.proofs.lemmas.List.Sorted.{IsPermutation-sym, IsPermutation-trans}
@@ -21,14 +21,13 @@ use Rattle.card_types.specs.declared.life.Life.TheVariants.{Installed, Selectabl
 use Rattle.policy_machine.proofs.FitsKept.{KeepsHeld, fits_kept, same_files, some_there}
 use Rattle.policy_machine.specs.Admission.{Admitted}
 use Rattle.policy_machine.specs.Refusal.{IsFirst}
-use Rattle.policy_machine.specs.InstallApplication.{AsksToInstall, InstallAsked, InstallingFails, MayBeMade, entry_made, managed_install, refused_privileges}
+use Rattle.policy_machine.specs.InstallApplication.{AsksToInstall, InstallAsked, MayBeMade, entry_made, managed_install, refused_privileges}
 use Rattle.policy_machine.specs.Management.{acting}
 use Rattle.policy_machine.specs.State.{LoadSession}
-use Rattle.policy_machine.specs.declared.install_application.RuleII.{RuleII}
-use Rattle.policy_machine.specs.declared.install_application.RuleII.TheVariants.{II1, II2, II3, II4, II5, II6, II7}
+use Rattle.policy_machine.specs.declared.install_application.RuleII.TheVariants.{II2, II4, II5, II7}
 use Rattle.policy_machine.proofs.InstallApplicationAsking.{install_judgeable}
-use Rattle.policy_machine.proofs.ManagedJudging.{own_pass}
-use Rattle.policy_machine.proofs.ManagedLawful.{IsManagedLawful, IsPassedFor, MayFollow, receipt_judged}
+use Rattle.policy_machine.proofs.ManagedJudging.{OwnPass, own_pass}
+use Rattle.policy_machine.proofs.ManagedLawful.{IsManagedLawful, KeepsCard, LeavesOne, receipt_judged}
 use Rattle.policy_machine.specs.ManagedForm.{command_form}
 use Rattle.policy_machine.proofs.Lawful.{none_of, sound_of_card}
 
@@ -66,7 +65,7 @@ aid_stable a b other = elim (cases_Bool (same_aid a b)) [
   | inr differs ↦ absurd (other (λ is. (let clash = sym ((same_aid_decides a b).1 is) ∙ differs in cc)))
 ]
 
-module _ (admitted : Admitted) (asked : InstallAsked) (passes : (rule : RuleII) → InstallingFails admitted asked rule → ⊥) where
+module _ (admitted : Admitted) (asked : InstallAsked) (own : OwnPass managed_install.judged admitted asked) where
   abbrev made : Entry
   made = entry_made admitted asked
 
@@ -75,7 +74,7 @@ module _ (admitted : Admitted) (asked : InstallAsked) (passes : (rule : RuleII) 
   life_fits false domain = refl
 
   is_made : MayBeMade made
-  is_made = made_stable made (passes II5)
+  is_made = made_stable made (own II5 (4, omega arith, refl))
 
   is_proper : AsksToInstall admitted.command.body asked → IsProperEntry made
   is_proper asks = record {
@@ -84,7 +83,7 @@ module _ (admitted : Admitted) (asked : InstallAsked) (passes : (rule : RuleII) 
     kind = is_made.kind;
     domain_module = λ is.
         aid_stable asked.given.second FACTORY_MODULE (λ other.
-        passes II2 (inr ((same_aid_decides asked.given.first FACTORY_FILE).0 (sym is_made.kind ∙ is), other)));
+        own II2 (1, omega arith, refl) (inr ((same_aid_decides asked.given.first FACTORY_FILE).0 (sym is_made.kind ∙ is), other)));
     life = life_fits (admitted.command.p1 == 0x0C) (is_domain made);
     named_privileges = asks.privileges.named;
     domain_privileges = is_made.domain_privileges;
@@ -96,13 +95,13 @@ module _ (admitted : Admitted) (asked : InstallAsked) (passes : (rule : RuleII) 
   pub may_be_added : AsksToInstall admitted.command.body asked → IsDomainNamed admitted.at.registry (acting admitted) → MayAddEntry admitted.at.registry made
   may_be_added asks domain = record {
     free = record {
-      no_entry = none_of (entry_named admitted.at.registry asked.given.third) (λ there. passes II4 (inl there));
-      no_file = none_of (file_named admitted.at.registry asked.given.third) (λ there. passes II4 (inr (inl there)));
+      no_entry = none_of (entry_named admitted.at.registry asked.given.third) (λ there. own II4 (3, omega arith, refl) (inl there));
+      no_file = none_of (file_named admitted.at.registry asked.given.third) (λ there. own II4 (3, omega arith, refl) (inr (inl there)));
     };
-    room = (let full = passes II7 in omega (arith, full));
+    room = (let full = own II7 (6, omega arith, refl) in omega (arith, full));
     proper = is_proper asks;
     domain = domain;
-    loaded = some_of (file_named admitted.at.registry asked.given.first) (λ none. passes II2 (inl none));
+    loaded = some_of (file_named admitted.at.registry asked.given.first) (λ none. own II2 (1, omega arith, refl) (inl none));
   }
 
   module _ (of : IsOfCard admitted.at.registry) (asks : AsksToInstall admitted.command.body asked) (domain : IsDomainNamed admitted.at.registry (acting admitted))
@@ -132,21 +131,7 @@ module _ (admitted : Admitted) (asked : InstallAsked) (passes : (rule : RuleII) 
         load_free load at free =
             subst (λ (r : Registry). entry_named r load.aid ≡ None) (sym added.same)
             (beside_found (λ (e : Entry). e.aid) made admitted.at.registry.entries changed.entries of.ascending.entries added.entries load.aid
-            (λ same. passes II4 (inr (inr (subst (λ (o : Option LoadSession). MatchOption o ⊥ (λ l. l.aid ≡ asked.given.third)) (sym at) (sym same))))) ∙ free)
-
--- each of its own rules passes
-pub passing : (admitted : Admitted) (asked : InstallAsked) → ((rule : RuleII) → Contains managed_install.judged.own.order rule → InstallingFails admitted asked rule → ⊥)
-    → (rule : RuleII) → InstallingFails admitted asked rule → ⊥
-passing admitted asked own rule = own rule (among rule)
-  where
-    among : (rule : RuleII) → Contains managed_install.judged.own.order rule
-    among II1 = (0, omega arith, refl)
-    among II2 = (1, omega arith, refl)
-    among II3 = (2, omega arith, refl)
-    among II4 = (3, omega arith, refl)
-    among II5 = (4, omega arith, refl)
-    among II6 = (5, omega arith, refl)
-    among II7 = (6, omega arith, refl)
+            (λ same. own II4 (3, omega arith, refl) (inr (inr (subst (λ (o : Option LoadSession). MatchOption o ⊥ (λ l. l.aid ≡ asked.given.third)) (sym at) (sym same))))) ∙ free)
 
 -- the registry with the entry is one that a card may have
 pub made_of_card : (admitted : Admitted) (asked : InstallAsked) → AsksToInstall admitted.command.body asked → IsOfCard admitted.at.registry
@@ -154,23 +139,20 @@ pub made_of_card : (admitted : Admitted) (asked : InstallAsked) → AsksToInstal
     → IsEntryAdded (entry_made admitted asked) admitted.at.registry changed → IsOfCard changed
 made_of_card admitted asked asks of domain first changed added =
     entry_added_keeps (entry_made admitted asked) admitted.at.registry changed of
-    (may_be_added admitted asked (passing admitted asked (own_pass managed_install.judged install_judgeable admitted asked asks first)) asks domain) added
+    (may_be_added admitted asked (own_pass managed_install.judged install_judgeable admitted asked asks first) asks domain) added
 
 -- it leaves a card sound
-install_keeps : (admitted : Admitted) (asked : InstallAsked) (changed : Registry) → IsPassedFor managed_install.judged admitted asked
-    → IsEntryAdded (entry_made admitted asked) admitted.at.registry changed → MayFollow admitted changed
+install_keeps : KeepsCard managed_install
 install_keeps admitted asked changed passed added =
     let registry = admitted.at.registry in
     let of = sound_of_card passed.sound in
-    let passes = passing admitted asked passed.own in
     record {
-      of = entry_added_keeps (entry_made admitted asked) registry changed of (may_be_added admitted asked passes passed.asks passed.domain) added;
-      fits = fits_kept registry changed admitted.at.volatile (added_keeps admitted asked passes of passed.asks passed.domain changed added) passed.sound.fits;
+      of = entry_added_keeps (entry_made admitted asked) registry changed of (may_be_added admitted asked passed.own passed.asks passed.domain) added;
+      fits = fits_kept registry changed admitted.at.volatile (added_keeps admitted asked passed.own of passed.asks passed.domain changed added) passed.sound.fits;
     }
 
 -- there is one registry with the entry
-install_one : (admitted : Admitted) (asked : InstallAsked) (a b : Registry) → AsksToInstall admitted.command.body asked
-    → IsEntryAdded (entry_made admitted asked) admitted.at.registry a → IsEntryAdded (entry_made admitted asked) admitted.at.registry b → a ≡ b
+install_one : LeavesOne managed_install
 install_one admitted asked a b asks one other =
     let made = entry_made admitted asked ∷ admitted.at.registry.entries in
     let entries : a.entries ≡ b.entries =

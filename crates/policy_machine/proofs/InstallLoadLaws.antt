@@ -9,12 +9,11 @@ use Rattle.policy_machine.specs.Admission.{Admitted}
 use Rattle.policy_machine.specs.Classes.{managing}
 use Rattle.policy_machine.specs.Commands.{Judges, JudgesAs, TakesCommand}
 use Rattle.policy_machine.specs.Refusal.{IsFirst}
-use Rattle.policy_machine.specs.InstallLoad.{AsksToLoad, InstallLoadEffect, InstallingLoadFails, LoadData, install_load, load_begun, named_or, judged_install_load}
+use Rattle.policy_machine.specs.InstallLoad.{InstallLoadEffect, LoadData, install_load, load_begun, named_or, judged_install_load}
 use Rattle.policy_machine.specs.Management.{acting}
 use Rattle.policy_machine.specs.Sound.{Fits, IsHashLength, IsSound, IsWellLoad}
 use Rattle.policy_machine.specs.State.{Effect, Volatile, with_load}
-use Rattle.policy_machine.specs.declared.install_load.RuleIL.{RuleIL}
-use Rattle.policy_machine.specs.declared.install_load.RuleIL.TheVariants.{IL1, IL2, IL3, IL4, IL5, IL6, IL7}
+use Rattle.policy_machine.specs.declared.install_load.RuleIL.TheVariants.{IL3, IL4, IL6, IL7}
 use Rattle.policy_machine.specs.declared.rule.Rule.{Rule}
 use Rattle.policy_machine.proofs.ChangingBytes.{installing, manages}
 use Rattle.policy_machine.proofs.ExtraditionLaws.{domain_stable}
@@ -22,7 +21,7 @@ use Rattle.policy_machine.proofs.Judging.{judged}
 use Rattle.policy_machine.proofs.Lawful.{HasNoPlaceOn, IsLawful, IsReady, managed_apart, none_of, sound_with}
 use Rattle.policy_machine.proofs.LengthFields.{one_load_data}
 use Rattle.policy_machine.proofs.SameEffect.{effect_same, state_same}
-use Rattle.policy_machine.proofs.ManagedJudging.{own_pass}
+use Rattle.policy_machine.proofs.ManagedJudging.{OwnPass, own_pass}
 use Rattle.policy_machine.specs.ManagedForm.{IsJudgeable}
 
 -- a length that can't be none of a hash is one
@@ -57,36 +56,21 @@ load_install_judgeable = record {
   approving = (tt, (tt, (tt, tt)));
 }
 
--- each of its own rules passes where none fails
-no_rule : (admitted : Admitted) → IsFirst (install_load.fails admitted) install_load.rules None → (given : LoadData) → AsksToLoad admitted.command.body given
-    → (rule : RuleIL) → InstallingLoadFails admitted given rule → ⊥
-no_rule admitted first given asks rule =
-    own_pass judged_install_load load_install_judgeable admitted given asks first rule (among rule)
-  where
-    among : (rule : RuleIL) → Contains judged_install_load.own.order rule
-    among IL1 = (0, omega arith, refl)
-    among IL2 = (1, omega arith, refl)
-    among IL3 = (2, omega arith, refl)
-    among IL4 = (3, omega arith, refl)
-    among IL5 = (4, omega arith, refl)
-    among IL6 = (5, omega arith, refl)
-    among IL7 = (6, omega arith, refl)
-
 -- the load session that begins goes with the registry
 begun_well : (admitted : Admitted) (given : LoadData) → IsAid given.file → IsReady admitted → admitted.command.ins ≡ install_load.instruction
-    → ((rule : RuleIL) → InstallingLoadFails admitted given rule → ⊥)
+    → OwnPass judged_install_load admitted given
     → IsWellLoad admitted.at.registry (with_load admitted.at.volatile (load_begun admitted given)) (load_begun admitted given)
-begun_well admitted given aid ready is passes =
+begun_well admitted given aid ready is own =
     let registry = admitted.at.registry in
     let apart = managed_apart admitted.command.ins install_load.instruction is (omega arith) in
     record {
       aid = aid;
       session = ready.session (subst (Contains managing) (sym is) (manages 0xE6 installing));
-      no_entry = none_of (entry_named registry given.file) (λ some. passes IL3 (inl some));
-      no_file = none_of (file_named registry given.file) (λ some. passes IL3 (inr some));
-      domain = domain_given registry given.domain (acting admitted) (ready.domain apart.0 apart.1) (passes IL4);
-      hash = hash_stable (length given.hash) (λ other. passes IL6 (inl other));
-      few_files = (let room = passes IL7 in omega (arith, room));
+      no_entry = none_of (entry_named registry given.file) (λ some. own IL3 (2, omega arith, refl) (inl some));
+      no_file = none_of (file_named registry given.file) (λ some. own IL3 (2, omega arith, refl) (inr some));
+      domain = domain_given registry given.domain (acting admitted) (ready.domain apart.0 apart.1) (own IL4 (3, omega arith, refl));
+      hash = hash_stable (length given.hash) (λ other. own IL6 (5, omega arith, refl) (inl other));
+      few_files = (let room = own IL7 (6, omega arith, refl) in omega (arith, room));
       few_blocks = omega arith;
       announced = refl;
       within = omega arith;
@@ -101,7 +85,7 @@ begun_fits admitted given fits well = record { channels = fits.channels; basic =
 install_load_keeps : (admitted : Admitted) (done : Effect) → IsReady admitted → JudgesAs install_load admitted None → InstallLoadEffect admitted done
     → IsSound done.state
 install_load_keeps admitted done ready (takes, first) does =
-    let well = begun_well admitted does.given does.asks.file ready takes.0 (no_rule admitted first does.given does.asks) in
+    let well = begun_well admitted does.given does.asks.file ready takes.0 (own_pass judged_install_load load_install_judgeable admitted does.given does.asks first) in
     sound_with admitted.at done.state ready.sound does.registry
     (subst (Fits admitted.at.registry) (sym does.volatile) (begun_fits admitted does.given ready.sound.fits well))
 

@@ -1,6 +1,6 @@
 -- The laws of INSTALL [for make selectable].
 use Rattle.std.proofs.Common.{◌≡◌, ◌≢◌, Option, None, Some, true, false, refl, ap, sym, subst, ◌∙◌, arith}
-use Rattle.std.specs.Prelude.{Contains, IfSome, MatchOption}
+use Rattle.std.specs.Prelude.{IfSome, MatchOption}
 use Rattle.card_types.proofs.LifeChanges.{life_keeps}
 use Rattle.card_types.specs.Aid.{same_aid}
 use Rattle.card_types.specs.ChangeLaws.{IsOfCard, MayHaveLife}
@@ -18,10 +18,9 @@ use Rattle.policy_machine.specs.declared.make_selectable.RuleMS.TheVariants.{MS2
 use Rattle.policy_machine.proofs.ChangedFits.{changed_fits}
 use Rattle.policy_machine.proofs.Lawful.{sound_of_card}
 use Rattle.policy_machine.proofs.LengthFields.{one_data}
-use Rattle.policy_machine.proofs.ManagedJudging.{own_pass, delegation_asked}
+use Rattle.policy_machine.proofs.ManagedJudging.{OwnPass, own_pass, delegation_asked}
 use Rattle.policy_machine.specs.ManagedForm.{IsJudgeable, command_form}
 use Rattle.policy_machine.proofs.ManagedLawful.{IsManagedLawful, leaves_one, receipt_judged}
-use Rattle.policy_machine.specs.declared.make_selectable.RuleMS.{RuleMS}
 
 abbrev pub selectable_life : LifeMark
 selectable_life = record { life = Selectable; locked = false }
@@ -54,8 +53,7 @@ selectable_judgeable = record {
 }
 
 -- its own rules leave the application selectable
-module _ (admitted : Admitted) (given : InstallData) (of : IsOfCard admitted.at.registry)
-    (own : (rule : RuleMS) → Contains managed_selectable.judged.own.order rule → MakingSelectableFails admitted given rule → ⊥) where
+module _ (admitted : Admitted) (given : InstallData) (of : IsOfCard admitted.at.registry) (own : OwnPass managed_selectable.judged admitted given) where
   selectable_follows : IsOfCard (with_life admitted.at.registry given.third selectable_life)
   selectable_follows =
       life_keeps admitted.at.registry given.third selectable_life of

@@ -30,6 +30,10 @@ two_pass both = (both.0, (both.1, tt))
 pub delegation_asked : OfEach IsOnAsked delegation_rules
 delegation_asked = (tt, (tt, (tt, (tt, tt))))
 
+-- none of the form's own rules fails for what is asked
+abbrev pub OwnPass : (form : JudgedForm) → Admitted → form.Asked → Type 0
+OwnPass form admitted asked = (rule : form.own.One) → Contains form.own.order rule → form.own.fails admitted asked rule → ⊥
+
 module _ (form : JudgedForm) (judgeable : IsJudgeable form) (admitted : Admitted) (asked : form.Asked) (asks : CommandAsks form admitted asked) where
   abbrev Fails : Rule → Type 0
   Fails = JudgedFails form admitted
@@ -111,7 +115,7 @@ module _ (form : JudgedForm) (judgeable : IsJudgeable form) (admitted : Admitted
 
   -- where no rule of the command fails, none of its own does for what is asked, and none on its approval
   module _ (first : IsFirst Fails (map M form.first_rules ++ own_rules ++ form.delegation.rules) None) where
-    pub own_pass : (rule : form.own.One) → Contains form.own.order rule → form.own.fails admitted asked rule → ⊥
+    pub own_pass : OwnPass form admitted asked
     own_pass rule there fails =
         none_fails Fails (map M form.first_rules ++ own_rules ++ form.delegation.rules) (form.own.group rule)
         (Contains-append_left (map M form.first_rules ++ own_rules) form.delegation.rules (form.own.group rule)

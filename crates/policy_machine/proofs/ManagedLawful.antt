@@ -18,7 +18,7 @@ use Rattle.policy_machine.specs.declared.rule.Rule.TheVariants.{RC}
 use Rattle.policy_machine.proofs.AnsweredKeeps.{answered_fits, answered_keeps, answered_once}
 use Rattle.policy_machine.proofs.Instructed.{each_byte}
 use Rattle.policy_machine.proofs.Lawful.{IsLawful, IsReady, fits_as, load_same, managed_apart, placeless_same}
-use Rattle.policy_machine.proofs.ManagedJudging.{approval_passes, own_pass}
+use Rattle.policy_machine.proofs.ManagedJudging.{OwnPass, approval_passes, own_pass}
 use Rattle.policy_machine.proofs.SameEffect.{effect_same, state_same}
 
 -- A command that no rule refuses asks for this.
@@ -27,7 +27,7 @@ pub record IsPassedFor (form : JudgedForm) (admitted : Admitted) (asked : form.A
   pub domain : IsDomainNamed admitted.at.registry (acting admitted)
   pub takes : form.takes admitted.command.p1 admitted.command.p2
   pub asks : CommandAsks form admitted asked
-  pub own : (rule : form.own.One) → Contains form.own.order rule → form.own.fails admitted asked rule → ⊥
+  pub own : OwnPass form admitted asked
 
 -- the card may have this registry then
 pub record MayFollow (admitted : Admitted) (changed : Registry) : Type 0 where
@@ -40,14 +40,30 @@ may_follow admitted left changed becomes of fits = record {
   fits = subst (λ (r : Registry). Fits r admitted.at.volatile) (sym becomes) fits;
 }
 
+-- the registry that a form leaves is one that the card may have
+abbrev pub KeepsCard : ManagedForm → Type 0
+KeepsCard form =
+    (admitted : Admitted) (asked : form.judged.Asked) (changed : Registry) → IsPassedFor form.judged admitted asked
+    → form.becomes admitted asked changed → MayFollow admitted changed
+
+-- and there is one
+abbrev pub LeavesOne : ManagedForm → Type 0
+LeavesOne form =
+    (admitted : Admitted) (asked : form.judged.Asked) (a b : Registry) → CommandAsks form.judged admitted asked
+    → form.becomes admitted asked a → form.becomes admitted asked b → a ≡ b
+
 -- It judges one thing, what is delegated may be receipted, its registry is one that the card may have, and there is one.
 pub record IsManagedLawful (form : ManagedForm) : Type 0 where
   pub judgeable : IsJudgeable form.judged
   pub receipted : (admitted : Admitted) → form.judged.delegation.is_delegated admitted → Contains form.judged.delegation.rules (RC RC1)
-  pub keeps : (admitted : Admitted) (asked : form.judged.Asked) (changed : Registry) → IsPassedFor form.judged admitted asked
-      → form.becomes admitted asked changed → MayFollow admitted changed
-  pub one : (admitted : Admitted) (asked : form.judged.Asked) (a b : Registry) → CommandAsks form.judged admitted asked
-      → form.becomes admitted asked a → form.becomes admitted asked b → a ≡ b
+  pub keeps : KeepsCard form
+  pub one : LeavesOne form
+
+-- a form that is delegated to nobody
+pub undelegated : (form : ManagedForm) → ((admitted : Admitted) → form.judged.delegation.is_delegated admitted → ⊥) → IsJudgeable form.judged
+    → KeepsCard form → LeavesOne form → IsManagedLawful form
+undelegated form nobody judgeable keeps one =
+    record { judgeable = judgeable; receipted = λ admitted delegated. absurd (nobody admitted delegated); keeps = keeps; one = one }
 
 -- a form that leaves one registry
 pub leaves_one : (form : JudgedForm) (left : Admitted → form.Asked → Registry) (reply : form.Asked → List ℕ) → IsJudgeable form

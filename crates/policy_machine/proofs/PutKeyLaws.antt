@@ -1,7 +1,7 @@
 -- The laws of PUT KEY.
 use Rattle.std.proofs.Common.{refl, arith, inl}
 use Rattle.policy_machine.specs.Admission.{Admitted}
-use Rattle.policy_machine.specs.PutKey.{managed_put_key, AreKeysPut, KeysAsked}
+use Rattle.policy_machine.specs.PutKey.{managed_put_key}
 use Rattle.policy_machine.specs.declared.put_key.RulePK.TheVariants.{PK2, PK4}
 use Rattle.policy_machine.proofs.PutKeyKeeps.{put_keeps}
 use Rattle.policy_machine.proofs.SameThings.{same_fits}
@@ -10,9 +10,8 @@ use Rattle.policy_machine.specs.Commands.{TakesCommand, Judges}
 use Rattle.policy_machine.specs.Refusal.{IsFirst}
 use Rattle.policy_machine.specs.declared.rule.Rule.{Rule}
 use Rattle.std.proofs.Common.{Option}
-use Rattle.card_types.specs.Registry.{Registry}
 use Rattle.policy_machine.specs.ManagedForm.{IsJudgeable, command_form}
-use Rattle.policy_machine.proofs.ManagedLawful.{IsManagedLawful, IsPassedFor, MayFollow, may_follow}
+use Rattle.policy_machine.proofs.ManagedLawful.{IsManagedLawful, KeepsCard, may_follow, undelegated}
 use Rattle.policy_machine.proofs.PutKeyOnce.{one_put, keys_put_once}
 use Rattle.policy_machine.specs.KeySets.{with_keys}
 use Rattle.policy_machine.proofs.Lawful.{sound_of_card}
@@ -21,8 +20,7 @@ pub put_key_judgeable : IsJudgeable managed_put_key.judged
 put_key_judgeable = record { one_asked = one_put; own = λ rule. tt; one_rule = λ a b same. cc; approving = tt }
 
 -- it changes neither entries nor Executable Load Files, and nothing that the channels hold
-putting_keeps : (admitted : Admitted) (asked : KeysAsked) (changed : Registry) → IsPassedFor managed_put_key.judged admitted asked → AreKeysPut admitted asked changed
-    → MayFollow admitted changed
+putting_keeps : KeepsCard managed_put_key
 putting_keeps admitted asked changed passed put =
     let registry = admitted.at.registry in
     may_follow admitted (with_keys registry put.keys put.counters) changed put.registry
@@ -31,12 +29,7 @@ putting_keeps admitted asked changed passed put =
     (same_fits registry registry.life put.keys put.counters registry.objects admitted.at.volatile passed.sound.fits)
 
 pub managed_put_key_lawful : IsManagedLawful managed_put_key
-managed_put_key_lawful = record {
-  judgeable = put_key_judgeable;
-  receipted = λ admitted delegated. absurd delegated;
-  keeps = putting_keeps;
-  one = keys_put_once;
-}
+managed_put_key_lawful = undelegated managed_put_key (λ admitted delegated. delegated) put_key_judgeable putting_keeps keys_put_once
 
 pub put_judged : (admitted : Admitted) (found : Option Rule) → TakesCommand (command_form managed_put_key) admitted.command → IsFirst ((command_form managed_put_key).fails admitted) (command_form managed_put_key).rules found
     → Judges admitted found

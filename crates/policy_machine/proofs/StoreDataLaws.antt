@@ -1,5 +1,5 @@
 -- The laws of STORE DATA.
-use Rattle.std.proofs.Common.{ℕ, ◌≤◌, List, [], ◌∷◌, length, sym, arith, ◌≡◌, ap, ◌∙◌, refl}
+use Rattle.std.proofs.Common.{ℕ, ◌≤◌, List, [], ◌∷◌, length, sym, arith, ap, ◌∙◌, refl}
 use Rattle.std.specs.Prelude.{All, filter, not}
 use Rattle.std.proofs.lemmas.List.Elements.{All-cons, All-filter, All-head, All-tail}
 use Rattle.std.proofs.lemmas.List.Sorted.{All-permutation, length_permutation, IsPermutation-sym, IsPermutation-trans}
@@ -7,11 +7,10 @@ use Rattle.bertlv.specs.Spelling.{Element}
 use Rattle.card_types.specs.Registry.{IsAscending, object_order, Object, Registry}
 use Rattle.card_types.specs.Well.{IsDomainNamed, IsObject, IsWellObject, Well}
 use Rattle.card_types.specs.declared.limits.TheConstants.{OBJECTS}
-use Rattle.policy_machine.specs.Admission.{Admitted}
 use Rattle.policy_machine.specs.Arranged.{IsArranged}
 use Rattle.policy_machine.specs.Management.{acting}
 use Rattle.policy_machine.specs.DataObjects.{is_object_of, with_data, with_object, with_objects}
-use Rattle.policy_machine.specs.StoreData.{objects_stored, HasObjects, managed_store_data, AreObjectsPut}
+use Rattle.policy_machine.specs.StoreData.{objects_stored, managed_store_data}
 use Rattle.policy_machine.specs.declared.store_data.RuleSD.TheVariants.{SD1}
 use Rattle.card_types.proofs.ChangeExists.{one_order}
 use Rattle.card_types.proofs.ObjectNames.{object_order_total}
@@ -19,7 +18,7 @@ use Rattle.policy_machine.proofs.StoreDataElements.{one_list}
 use Rattle.policy_machine.proofs.SameThings.{same_fits}
 use Rattle.policy_machine.proofs.DataWell.{data_well}
 use Rattle.policy_machine.specs.ManagedForm.{IsJudgeable}
-use Rattle.policy_machine.proofs.ManagedLawful.{IsManagedLawful, IsPassedFor, MayFollow, may_follow}
+use Rattle.policy_machine.proofs.ManagedLawful.{IsManagedLawful, KeepsCard, LeavesOne, may_follow, undelegated}
 
 module _ (registry : Registry) (owner : List ℕ) (domain : IsDomainNamed registry owner) where
   -- those that are put are ones that the domain may have
@@ -64,8 +63,7 @@ store_judgeable = record {
 }
 
 -- it changes data objects alone
-storing_keeps : (admitted : Admitted) (elements : List Element) (changed : Registry) → IsPassedFor managed_store_data.judged admitted elements
-    → AreObjectsPut admitted elements changed → MayFollow admitted changed
+storing_keeps : KeepsCard managed_store_data
 storing_keeps admitted elements changed passed put =
     let registry = admitted.at.registry in
     let fits = passed.own SD1 (0, omega arith, refl) in
@@ -76,8 +74,7 @@ storing_keeps admitted elements changed passed put =
     })
     (same_fits registry registry.life registry.keys registry.counters put.objects admitted.at.volatile passed.sound.fits)
 
-put_once : (admitted : Admitted) (elements : List Element) (a b : Registry) → HasObjects admitted.command.body elements → AreObjectsPut admitted elements a
-    → AreObjectsPut admitted elements b → a ≡ b
+put_once : LeavesOne managed_store_data
 put_once admitted elements a b has one other =
     let things = objects_stored admitted elements in
     let objects = one_order object_order object_order_total one.objects other.objects one.arranged.ascending other.arranged.ascending
@@ -85,9 +82,4 @@ put_once admitted elements a b has one other =
     one.registry ∙ ap (with_data admitted.at.registry) objects ∙ sym other.registry
 
 pub managed_store_data_lawful : IsManagedLawful managed_store_data
-managed_store_data_lawful = record {
-  judgeable = store_judgeable;
-  receipted = λ admitted delegated. absurd delegated;
-  keeps = storing_keeps;
-  one = put_once;
-}
+managed_store_data_lawful = undelegated managed_store_data (λ admitted delegated. delegated) store_judgeable storing_keeps put_once
