@@ -1,5 +1,5 @@
 -- Slots of one size in a page.
-use Rattle.std.proofs.Common.{◌≡◌, ◌≢◌, inl, inr, ℕ, ◌+◌, ◌-◌, ◌*◌, ◌/◌, ◌%◌, ◌<◌, ◌≤◌, List, ◌++◌, length, take, drop, get_or, ap, subst, ◌∙◌, arith}
+use Rattle.std.proofs.Common.{◌≡◌, ◌≢◌, inl, inr, ℕ, ◌+◌, ◌-◌, ◌*◌, ◌/◌, ◌%◌, ◌<◌, ◌≤◌, List, ◌++◌, length, take, drop, get_or, ap, subst, ◌∙◌, sym, arith}
 use Rattle.std.specs.Prelude.{slice_range}
 use Rattle.std.proofs.Math.Nat.{div-mul-le_self, mod-eq-sub-div-mul}
 use Rattle.std.proofs.lemmas.Bool.{cases_lt}
@@ -62,6 +62,14 @@ some_each size whole = elim (cases_lt 0 (256 / size)) [
   | inl some ↦ some
   | inr none ↦ absurd (omega (arith, at_most (256 / size) 0 size none, whole))
 ]
+
+-- the page of a slot is one of them
+pub staged_page : (first size all slot : ℕ) → 256 / size * size ≡ 256 → slot < all → all % (256 / size) ≡ 0 → first * (256 / size) + all ≤ 45 * (256 / size)
+    → (read from : ℕ) → read ≡ size → from ≡ slot → first + from / (256 / read) < 45
+staged_page first size all slot whole lt of_pages room read from same is =
+    let some = some_each size whole in
+    subst (λ n. first + n / (256 / read) < 45) (sym is) (subst (λ n. first + slot / (256 / n) < 45) (sym same)
+    (page_within first (slot / (256 / size)) all (256 / size) room (whole_page slot all (256 / size) some lt of_pages) some))
 
 -- what is so of all slots before a page, and of those in it
 pub page_more : (each number : ℕ) (P : ℕ → Type 0) → ((slot : ℕ) → slot < number * each → P slot) → ((place : ℕ) → place < each → P (number * each + place)) → (slot : ℕ) → slot < (number + 1) * each → P slot
