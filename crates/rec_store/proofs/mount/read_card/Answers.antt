@@ -1,11 +1,15 @@
 use Rattle.std.proofs.Common.{sym, subst, ◌∙◌}
+use Rattle.card_types.specs.Registry.{Registry}
 use Rattle.card_types.specs.Represents.{Represents}
 use Rattle.page_journal.specs.Journal.{stored}
+use Rattle.page_journal.specs.Moments.{LeavesOnly}
 use Rattle.rec_store.specs.Reopens.{Reopens, load_page, store_page}
 use Rattle.rec_store.proofs.OneRegistry.{read_card}
 use Rattle.rec_store.proofs.Raising.{left_load, left_registry, left_tables, settled_first, settled_now, settled_registry}
 use Rattle.rec_store.proofs.Reopening.{has_pages}
+use Rattle.rec_store.proofs.mount.read_card.Given as given
 use Rattle.rec_store.proofs.mount.read_card.Goals as goal
+use Rattle.rec_store.proofs.mount.read_card.Goals.{After-raise}
 
 pub returns-then-not-is_card-clause-err : goal.returns-then-not-is_card-clause-err
 returns-then-not-is_card-clause-err g c told =
@@ -34,21 +38,17 @@ raise-requires-clause-sound g c told =
     let s2 = c.settle.new.self.flash in
     (settled_now F s0 c.read_tables.new.store s2 told (c.requires.sound told) (c.requires.only told) c.read_tables.ensures.read (c.settle.ensures.moments told) g.met.F.Flash.counts_now g.met.F.Flash.as_read).sound
 
-pub returns-in_err-raise-clause-moments : goal.returns-in_err-raise-clause-moments
-returns-in_err-raise-clause-moments g c told registry was =
-    let F = g.F.Flash in
-    let s0 = c.args.store.now in
-    let s2 = c.settle.new.self.flash in
-    settled_first F s0 c.read_tables.new.store s2 told (c.requires.sound told) (c.requires.only told) c.read_tables.ensures.read (c.settle.ensures.moments told) g.met.F.Flash.counts_now g.met.F.Flash.as_read
+moments : (g : given.Over) (c : After-raise g) (told : g.F.Flash.tells) (registry : Registry) → Reopens (g.F.Flash.pages c.args.store.now.flash) registry
+    → LeavesOnly g.F.Flash c.args.store.now.flash c.raise.new.store.flash (λ outcome. Reopens outcome registry)
+moments g c told registry was =
+    settled_first g.F.Flash c.args.store.now c.read_tables.new.store c.settle.new.self.flash told (c.requires.sound told) (c.requires.only told) c.read_tables.ensures.read (c.settle.ensures.moments told) g.met.F.Flash.counts_now g.met.F.Flash.as_read
     c.raise.new.store.flash registry was (c.raise.ensures.moments told registry)
 
+pub returns-in_err-raise-clause-moments : goal.returns-in_err-raise-clause-moments
+returns-in_err-raise-clause-moments g c = moments g (goal.at.returns-in_err-raise-clause-moments g c).After-raise
+
 pub returns-clause-moments : goal.returns-clause-moments
-returns-clause-moments g c told registry was =
-    let F = g.F.Flash in
-    let s0 = c.args.store.now in
-    let s2 = c.settle.new.self.flash in
-    settled_first F s0 c.read_tables.new.store s2 told (c.requires.sound told) (c.requires.only told) c.read_tables.ensures.read (c.settle.ensures.moments told) g.met.F.Flash.counts_now g.met.F.Flash.as_read
-    c.raise.new.store.flash registry was (c.raise.ensures.moments told registry)
+returns-clause-moments g c = moments g (goal.at.returns-clause-moments g c).After-raise
 
 pub returns-clause-held : goal.returns-clause-held
 returns-clause-held g c told =
