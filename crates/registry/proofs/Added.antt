@@ -44,7 +44,7 @@ module _ (page : ℕ → List ℕ) (before : Tables) (said : registry.Registry) 
 
   module _ (aid : List ℕ) (full : Type 0) where
     -- the answer says that the AID is taken, or that it is not and all is full, exactly where that is so
-    abbrev Judged : Result ℕ AddRefusal → Type 0
+    abbrev pub Judged : Result ℕ AddRefusal → Type 0
     Judged result = (result ≡ Err Taken ↔ IsTaken said aid) × (result ≡ Err Full ↔ ((IsTaken said aid → ⊥) × full))
 
     -- what is refused is refused for the reason that is answered
