@@ -26,10 +26,7 @@ pub fn has_room(tables: &Tables) -> bool
 pub fn has_issuer(tables: &Tables) -> bool
     ensures { IsTrue result ↔ MatchOption (held tables.now.entries.items 0) ⊥ IsIssuerEntry }
 {
-    match in_slot(&tables.entries, ISSUER_SLOT) {
-        Some(entry) => is_issuer(entry),
-        None => false,
-    }
+    in_slot(&tables.entries, ISSUER_SLOT).is_some_and(is_issuer)
 }
 
 fn is_issuer(entry: &Entry) -> bool
@@ -47,10 +44,7 @@ fn is_issuer(entry: &Entry) -> bool
 pub fn has_factory_file(tables: &Tables) -> bool
     ensures { IsTrue result ↔ MatchOption (held tables.now.files.items 0) ⊥ IsFactoryLoadFile }
 {
-    match in_slot(&tables.files, FACTORY_SLOT) {
-        Some(file) => is_factory_file(file),
-        None => false,
-    }
+    in_slot(&tables.files, FACTORY_SLOT).is_some_and(is_factory_file)
 }
 
 fn is_factory_file(file: &LoadFile) -> bool
