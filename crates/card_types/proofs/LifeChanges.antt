@@ -1,10 +1,10 @@
 -- A registry is one that a card may have, with its lists in order, after a life cycle state, locks or a receipt number of entries
 -- are changed, or the life cycle state of the card.
-use Rattle.std.proofs.Common.{◌≡◌, ◌≤◌, ℕ, Bool, true, cond, List, Option, None, Some, refl, ap, sym, subst, ◌∙◌}
+use Rattle.std.proofs.Common.{◌≡◌, ℕ, Bool, true, cond, List, Option, None, Some, refl, ap, sym, subst, ◌∙◌}
 use Rattle.std.specs.Prelude.{Contains, IfSome}
 use Rattle.std.proofs.lemmas.Bool.{cond_both}
 use Rattle.std.proofs.lemmas.List.Elements.{All-contains, All-weaker}
-use Rattle.card_types.proofs.MappedEntries.{KeepsNames, entries_changed_ascending, entries_changed_well, some_keep}
+use Rattle.card_types.proofs.MappedEntries.{KeepsNames, entries_changed_ascending, entries_changed_well, proper_with, some_keep}
 use Rattle.card_types.proofs.NamedThings.{member_named}
 use Rattle.card_types.proofs.OthersWell.{all_owned, counters_well, keys_well, objects_well}
 use Rattle.card_types.proofs.SameAid.{same_aid_decides}
@@ -14,8 +14,6 @@ use Rattle.card_types.specs.Registry.{Entry, Registry, entry_named, is_domain}
 use Rattle.card_types.specs.RegistryChange.{with_card_life, with_entries}
 use Rattle.card_types.specs.Well.{IsIssuerDomain, IsProperEntry, IsWellEntry, IsWellFile, has_life}
 use Rattle.card_types.specs.declared.factory.TheConstants.{ISSUER}
-use Rattle.card_types.specs.declared.life.LifeMark.{LifeMark}
-use Rattle.card_types.specs.declared.limits.TheConstants.{RECEIPT_LIMIT}
 
 -- some entries are changed, in neither AID, domain, Executable Load File, Module nor privileges
 module _ (registry : Registry) (these : List ℕ → Bool) (change : Entry → Entry) (keeps : KeepsNames change)
@@ -38,38 +36,11 @@ module _ (registry : Registry) (these : List ℕ → Bool) (change : Entry → E
     ascending = entries_changed_ascending registry some (some_keep these change keeps) some_domain of.ascending;
   }
 
--- what is so of an entry says of its life cycle state only that it fits
-other_life : (entry : Entry) (life : LifeMark) → has_life (is_domain entry) life.life ≡ true → IsProperEntry entry → IsProperEntry (record entry { life = life })
-other_life entry life fits is = record {
-  aid = is.aid;
-  module_ = is.module_;
-  kind = is.kind;
-  domain_module = is.domain_module;
-  life = fits;
-  named_privileges = is.named_privileges;
-  domain_privileges = is.domain_privileges;
-  one_management = is.one_management;
-  receipts = is.receipts;
-}
-
-other_number : (entry : Entry) (number : ℕ) → number ≤ RECEIPT_LIMIT → IsProperEntry entry → IsProperEntry (record entry { receipts = number })
-other_number entry number most is = record {
-  aid = is.aid;
-  module_ = is.module_;
-  kind = is.kind;
-  domain_module = is.domain_module;
-  life = is.life;
-  named_privileges = is.named_privileges;
-  domain_privileges = is.domain_privileges;
-  one_management = is.one_management;
-  receipts = most;
-}
-
 pub life_keeps : LifeKeeps
 life_keeps registry aid life of may =
     changes_keep registry (λ other. same_aid other aid) (λ entry. record entry { life = life })
     (record { aid = λ _. refl; file = λ _. refl; privileges = λ _. refl }) (λ _. refl) of
-    (λ entry there hit is. other_life entry life (IfSome-at (entry_named registry aid) entry (member_named registry of entry there aid hit) may.fits) is)
+    (λ entry there hit is. proper_with entry is entry.domain life entry.receipts (IfSome-at (entry_named registry aid) entry (member_named registry of entry there aid hit) may.fits) is.receipts)
     (λ hit. absurd (may.other (sym ((same_aid_decides ISSUER aid).0 hit))))
   where
     IfSome-at : (o : Option Entry) (entry : Entry) → o ≡ Some entry → IfSome o (λ e. has_life (is_domain e) life.life ≡ true) → has_life (is_domain entry) life.life ≡ true
@@ -80,14 +51,14 @@ pub locks_keep : LocksKeep
 locks_keep registry these locked of other =
     changes_keep registry these (λ entry. record entry { life = record { life = entry.life.life; locked = locked } })
     (record { aid = λ _. refl; file = λ _. refl; privileges = λ _. refl }) (λ _. refl) of
-    (λ entry there hit is. other_life entry (record { life = entry.life.life; locked = locked }) is.life is)
+    (λ entry there hit is. proper_with entry is entry.domain (record { life = entry.life.life; locked = locked }) entry.receipts is.life is.receipts)
     (λ hit. (let clash = sym other ∙ hit in cc))
 
 pub receipts_keep : ReceiptsKeep
 receipts_keep registry aid number of most =
     changes_keep registry (λ other. same_aid other aid) (λ entry. record entry { receipts = number })
     (record { aid = λ _. refl; file = λ _. refl; privileges = λ _. refl }) (λ _. refl) of
-    (λ entry there hit is. other_number entry number most is)
+    (λ entry there hit is. proper_with entry is entry.domain entry.life number is.life most)
     (λ hit entry is. record { domain = is.domain; file = is.file; module_ = is.module_; life = is.life; unlocked = is.unlocked })
 
 -- the life cycle state of the card is no part of it

@@ -1,5 +1,5 @@
 -- A registry in which entries are changed, but for their AIDs, Executable Load Files and privileges.
-use Rattle.std.proofs.Common.{◌≡◌, inl, inr, ℕ, Bool, true, cond, List, [], ◌∷◌, length, Option, None, Some, refl, ap, sym, subst, ◌∙◌, arith}
+use Rattle.std.proofs.Common.{◌≡◌, ◌≤◌, inl, inr, ℕ, Bool, true, cond, List, [], ◌∷◌, length, Option, None, Some, refl, ap, sym, subst, ◌∙◌, arith}
 use Rattle.std.specs.Prelude.{All, Contains, IsSome, MatchOption, find, map}
 use Rattle.std.specs.List.{sum_by}
 use Rattle.std.specs.List.Sorted.{IsStrictlySortedBy}
@@ -15,8 +15,10 @@ use Rattle.card_types.proofs.SameAid.{same_aid_decides}
 use Rattle.card_types.specs.Aid.{aid_order, same_aid}
 use Rattle.card_types.specs.Registry.{IsAscending, Entry, LoadFile, Registry, domain_of, entry_named, file_named, is_domain}
 use Rattle.card_types.specs.Privileges.{has, security_domain}
-use Rattle.card_types.specs.Well.{IsDomainNamed, IsFactoryFile, IsIssuerDomain, IsProperEntry, IsWellEntry, IsWellFile, LeadsToRoot, Well, pages_of}
+use Rattle.card_types.specs.Well.{IsDomainNamed, IsFactoryFile, IsIssuerDomain, IsProperEntry, IsWellEntry, IsWellFile, LeadsToRoot, Well, has_life, pages_of}
 use Rattle.card_types.specs.declared.factory.TheConstants.{ISSUER, FACTORY_FILE}
+use Rattle.card_types.specs.declared.life.LifeMark.{LifeMark}
+use Rattle.card_types.specs.declared.limits.TheConstants.{RECEIPT_LIMIT}
 
 module _ {X : Type 0} (f : X → X) where
   -- what a test finds that a map leaves as it is
@@ -31,6 +33,21 @@ module _ {X : Type 0} (f : X → X) where
   pub names_mapped : {Y : Type 0} (name : X → Y) → ((x : X) → name (f x) ≡ name x) → (xs : List X) → map name (map f xs) ≡ map name xs
   names_mapped name alike [] = refl
   names_mapped name alike (x ∷ xs) = (let first = alike x in let rest = names_mapped name alike xs in cc)
+
+-- what is so of an entry says nothing of its domain, and of its life cycle state and receipt number only that they fit
+pub proper_with : (entry : Entry) → IsProperEntry entry → (domain : List ℕ) (life : LifeMark) (number : ℕ) → has_life (is_domain entry) life.life ≡ true → number ≤ RECEIPT_LIMIT
+    → IsProperEntry (record entry { domain = domain; life = life; receipts = number })
+proper_with entry is domain life number fits most = record {
+  aid = is.aid;
+  module_ = is.module_;
+  kind = is.kind;
+  domain_module = is.domain_module;
+  life = fits;
+  named_privileges = is.named_privileges;
+  domain_privileges = is.domain_privileges;
+  one_management = is.one_management;
+  receipts = most;
+}
 
 -- what a change of entries leaves as it was
 pub record KeepsNames (change : Entry → Entry) : Type 0 where

@@ -11,7 +11,7 @@ use Rattle.std.proofs.lemmas.List.Elements.{All-contains, All-contains_itself, A
 use Rattle.std.proofs.lemmas.List.Sums.{sum_by-cons}
 use Rattle.card_types.proofs.LeastOfList.{found_fits}
 use Rattle.card_types.proofs.LineChanges.{leads_kept, leads_moved, leads_thing}
-use Rattle.card_types.proofs.MappedEntries.{KeepsNames, changed_well, domain_still, entry_changed, find_mapped, issuer_still, names_mapped, some_keep, unnamed_still}
+use Rattle.card_types.proofs.MappedEntries.{KeepsNames, changed_well, domain_still, entry_changed, find_mapped, issuer_still, names_mapped, proper_with, some_keep, unnamed_still}
 use Rattle.card_types.proofs.Members.{mapped}
 use Rattle.card_types.proofs.NamedThings.{aid_cases, domain_leads}
 use Rattle.card_types.proofs.SameAid.{same_aid_decides}
@@ -70,17 +70,7 @@ module _ (registry : Registry) (aid domain : List ℕ) where
     proper entry there =
         let is = (All-contains (IsWellEntry registry) registry.entries entry of.well.entries there).proper in
         cond_both (same_aid entry.aid aid) (in_domain entry) entry IsProperEntry
-        (λ hit. record {
-          aid = is.aid;
-          module_ = is.module_;
-          kind = is.kind;
-          domain_module = is.domain_module;
-          life = is.life;
-          named_privileges = is.named_privileges;
-          domain_privileges = is.domain_privileges;
-          one_management = is.one_management;
-          receipts = is.receipts;
-        })
+        (λ hit. proper_with entry is domain entry.life entry.receipts is.life is.receipts)
         (λ missed. is)
 
     domains : (entry : Entry) → Contains registry.entries entry → IsDomainNamed registry (some entry).domain
