@@ -1,10 +1,11 @@
 -- What a list of slots shows after a change of one slot.
-use Rattle.std.proofs.Common.{true, ◌≡◌, inl, inr, ℕ, zero, suc, ◌<◌, Bool, cond, List, [], ◌∷◌, length, Option, None, Some, refl, ap, sym, subst, ◌∙◌, arith}
+use Rattle.std.proofs.Common.{true, false, ◌≡◌, inl, inr, ℕ, zero, suc, ◌+◌, ◌<◌, Bool, cond, List, [], ◌∷◌, length, Option, None, Some, refl, ap, sym, subst, ◌∙◌, arith}
 use Rattle.std.specs.Prelude.{filter, map, slice_set}
 use Rattle.std.specs.List.{cons_option, filter_map}
 use Rattle.std.specs.Option.{option_map}
 use Rattle.std.specs.List.Sorted.{IsPermutation}
-use Rattle.std.proofs.lemmas.Bool.{cases_Bool}
+use Rattle.std.proofs.lemmas.Bool.{cases_Bool, cases_eq}
+use Rattle.std.proofs.lemmas.List.{get_or-set_other, get_or-set_same}
 use Rattle.std.proofs.lemmas.List.Sorted.{IsPermutation-cons, IsPermutation-middle, IsPermutation-refl, IsPermutation-sym, IsPermutation-trans}
 use Rattle.std.specs.Cmp.{IsTotalOrder}
 use Rattle.std.specs.declared.cmp.Ordering.{Ordering}
@@ -112,3 +113,17 @@ module _ {T X : Type 0} where
   same_all view view' slots slots' before shows same alike =
       let kept = same_slots view view' (λ _. true) slots slots' before (rw (all_kept (used slots)) shows) same alike in
       rw (all_kept (used slots')) at kept
+
+-- what is so of the slots before one, after one turn: that slot is passed, or is freed
+module _ {T : Type 0} (fits : Option T → Bool) (free : fits None ≡ false) (slots : List (Option T)) (slot : ℕ) (before : (k : ℕ) → k < slot → fits (held slots k) ≡ false) where
+  pub gone_more : fits (held slots slot) ≡ false → (k : ℕ) → k < slot + 1 → fits (held slots k) ≡ false
+  gone_more here k lt = elim (cases_eq slot k) [
+    | inl same ↦ subst (λ n. fits (held slots n) ≡ false) same here
+    | inr other ↦ before k (omega (arith, lt, other))
+  ]
+
+  pub gone_set : slot < length slots → (k : ℕ) → k < slot + 1 → fits (held (slice_set slots slot None) k) ≡ false
+  gone_set within k lt = elim (cases_eq k slot) [
+    | inl same ↦ ap fits (ap (held (slice_set slots slot None)) same ∙ get_or-set_same slots slot None None within) ∙ free
+    | inr other ↦ ap fits (get_or-set_other slots slot k None None other) ∙ before k (omega (arith, lt, other))
+  ]

@@ -1,10 +1,9 @@
 -- Keys that stay and keys that go, slot by slot.
-use Rattle.std.proofs.Common.{◌≡◌, inl, inr, ℕ, zero, suc, ◌+◌, ◌<◌, Bool, true, false, ◌&&◌, List, [], ◌∷◌, length, Option, None, Some, refl, ap, subst, ◌∙◌, arith}
+use Rattle.std.proofs.Common.{◌≡◌, inl, inr, ℕ, zero, suc, ◌<◌, Bool, true, false, ◌&&◌, List, [], ◌∷◌, length, Option, None, Some, refl, ap, arith}
 use Rattle.std.specs.Prelude.{filter, not, slice_set}
 use Rattle.std.specs.List.{list_any}
 use Rattle.std.specs.List.Sorted.{IsPermutation}
-use Rattle.std.proofs.lemmas.Bool.{cases_Bool, cases_eq, or_parts}
-use Rattle.std.proofs.lemmas.List.{get_or-set_other, get_or-set_same}
+use Rattle.std.proofs.lemmas.Bool.{cases_Bool, or_parts}
 use Rattle.std.proofs.lemmas.List.Sorted.{IsPermutation-sym}
 use Rattle.card_types.specs.Represents.{used, held}
 use Rattle.card_types.specs.declared.tables.KeyRec.{KeyRec}
@@ -58,20 +57,6 @@ module _ {T : Type 0} where
   pub put_in : (slots : List (Option T)) (slot : ℕ) (thing : T) → slot < length slots → held slots slot ≡ None
       → IsPermutation (used (slice_set slots slot (Some thing))) (thing ∷ used slots)
   put_in slots slot thing within free = IsPermutation-sym _ _ (rw free at (set_shown (λ (o : Option T). o) slots slot (Some thing) within))
-
--- what is so after one turn of freeing, of the slots that were looked at
-module _ (owner version : ℕ) (slots : List (Option KeyRec)) (slot : ℕ) (before : (k : ℕ) → k < slot → holds_one_of owner version (held slots k) ≡ false) where
-  pub gone_more : holds_one_of owner version (held slots slot) ≡ false → (k : ℕ) → k < slot + 1 → holds_one_of owner version (held slots k) ≡ false
-  gone_more here k lt = elim (cases_eq slot k) [
-    | inl same ↦ subst (λ n. holds_one_of owner version (held slots n) ≡ false) same here
-    | inr other ↦ before k (omega (arith, lt, other))
-  ]
-
-  pub gone_set : slot < length slots → (k : ℕ) → k < slot + 1 → holds_one_of owner version (held (slice_set slots slot None) k) ≡ false
-  gone_set within k lt = elim (cases_eq k slot) [
-    | inl same ↦ (let free : held (slice_set slots slot None) k ≡ None = ap (held (slice_set slots slot None)) same ∙ get_or-set_same slots slot None None within in ap (holds_one_of owner version) free)
-    | inr other ↦ ap (holds_one_of owner version) (get_or-set_other slots slot k None None other) ∙ before k (omega (arith, lt, other))
-  ]
 
 -- where the domain has no such keys, all stay
 pub none_goes : (owner version : ℕ) (keys : List KeyRec) → list_any (is_of owner version) keys ≡ false → filter (λ key. not (is_of owner version key)) keys ≡ keys

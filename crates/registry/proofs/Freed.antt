@@ -1,7 +1,7 @@
 -- Slots of the things of one domain, of which some are freed.
-use Rattle.std.proofs.Common.{◌≡◌, ◌≢◌, inl, inr, ℕ, zero, suc, ◌+◌, ◌<◌, ◌==◌, true, false, List, [], ◌∷◌, length, Option, None, Some, refl, ap, sym, subst, ◌∙◌, arith}
+use Rattle.std.proofs.Common.{◌≡◌, ◌≢◌, inl, inr, ℕ, zero, suc, ◌+◌, ◌<◌, ◌==◌, true, false, List, [], ◌∷◌, length, Option, None, Some, refl, ap, sym, ◌∙◌, arith}
 use Rattle.std.specs.Prelude.{filter, map, not, slice_set}
-use Rattle.std.proofs.lemmas.Bool.{cases_Bool, cases_eq, eq-eqb, eqb-true}
+use Rattle.std.proofs.lemmas.Bool.{cases_Bool, eq-eqb, eqb-true}
 use Rattle.std.proofs.lemmas.List.{get_or-set_other, get_or-set_same}
 use Rattle.card_types.specs.Represents.{used, held}
 use Rattle.registry.specs.Removing.{freed, is_owned}
@@ -61,22 +61,6 @@ module _ {T : Type 0} (owner : T → ℕ) (domain : ℕ) where
     | inl goes ↦ rw (goes, used_freed slots) refl
     | inr stays ↦ rw (stays, used_freed slots) refl
   ]
-
-  -- what is so after one turn, of the slots that were looked at
-  module _ (slots : List (Option T)) (slot : ℕ) (before : (k : ℕ) → k < slot → is_owned owner domain (held slots k) ≡ false) where
-    pub gone_more : is_owned owner domain (held slots slot) ≡ false → (k : ℕ) → k < slot + 1 → is_owned owner domain (held slots k) ≡ false
-    gone_more here k lt = elim (cases_eq slot k) [
-      | inl same ↦ subst (λ n. is_owned owner domain (held slots n) ≡ false) same here
-      | inr other ↦ before k (omega (arith, lt, other))
-    ]
-
-    pub gone_set : slot < length slots → (k : ℕ) → k < slot + 1 → is_owned owner domain (held (slice_set slots slot None) k) ≡ false
-    gone_set within k lt = elim (cases_eq k slot) [
-      | inl same ↦
-          (let free : held (slice_set slots slot None) k ≡ None = ap (held (slice_set slots slot None)) same ∙ get_or-set_same slots slot None None within in
-          ap (is_owned owner domain) free)
-      | inr other ↦ ap (is_owned owner domain) (get_or-set_other slots slot k None None other) ∙ before k (omega (arith, lt, other))
-    ]
 
   -- a slot that is freed held something before
   pub freed_differs : (slots start : List (Option T)) (slot : ℕ) → is_owned owner domain (held slots slot) ≡ true → held slots slot ≡ held start slot

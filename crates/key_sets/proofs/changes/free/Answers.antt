@@ -1,10 +1,11 @@
-use Rattle.std.proofs.Common.{◌≡◌, ◌<◌, List, Option, length, sym, subst, ◌∙◌, arith}
+use Rattle.std.proofs.Common.{◌≡◌, ◌<◌, List, Option, length, refl, sym, subst, ◌∙◌, arith}
 use Rattle.std.proofs.lemmas.List.{length-set}
 use Rattle.card_types.specs.Represents.{held}
 use Rattle.card_types.specs.declared.limits.TheConstants.{KEYS}
 use Rattle.card_types.specs.declared.tables.KeyRec.{KeyRec}
 use Rattle.key_rules.specs.InSlots.{holds_one_of}
-use Rattle.key_rules.proofs.Stays.{all_stay, gone_more, gone_set, stay_after}
+use Rattle.card_types.proofs.ChangedSlot.{gone_more, gone_set}
+use Rattle.key_rules.proofs.Stays.{all_stay, stay_after}
 use Rattle.key_sets.proofs.changes.free.Goals as goal
 use Rattle.key_sets.proofs.changes.free.Goals.{then-goes, else-goes}
 
@@ -29,7 +30,7 @@ loop-slot-preserved g c =
             count = length-set slots slot _ ∙ before.count;
             all = λ _. length-set slots slot _ ∙ all;
             stay = stay_after owner version slots slot (sym here ∙ w.if-goes.true) ∙ before.stay;
-            gone = gone_set owner version slots slot before.gone within;
+            gone = gone_set (holds_one_of owner version) refl slots slot before.gone within;
           }))
       | else-goes w ↦
           rw w.keeper-is (record {
@@ -38,7 +39,7 @@ loop-slot-preserved g c =
             count = before.count;
             all = λ _. all;
             stay = before.stay;
-            gone = gone_more owner version slots slot before.gone (sym here ∙ w.if-goes.false);
+            gone = gone_more (holds_one_of owner version) refl slots slot before.gone (sym here ∙ w.if-goes.false);
           })
     ]
 

@@ -1,10 +1,11 @@
-use Rattle.std.proofs.Common.{◌≡◌, ◌<◌, List, Option, None, length, ap, sym, subst, ◌∙◌, arith}
+use Rattle.std.proofs.Common.{◌≡◌, ◌<◌, List, Option, None, length, refl, ap, sym, subst, ◌∙◌, arith}
 use Rattle.std.specs.Prelude.{map}
 use Rattle.std.proofs.lemmas.List.{length-set}
 use Rattle.card_types.specs.Represents.{held}
 use Rattle.registry.specs.Removing.{freed, is_owned}
 use Rattle.registry.proofs.Frames.{keeps_on, still_room}
-use Rattle.registry.proofs.Freed.{freed_after, freed_differs, gone_more, gone_set, none_freed, rest_set}
+use Rattle.card_types.proofs.ChangedSlot.{gone_more, gone_set}
+use Rattle.registry.proofs.Freed.{freed_after, freed_differs, none_freed, rest_set}
 use Rattle.registry.proofs.Staging.{changed_staged, passed_staged, set_staged}
 use Rattle.registry.proofs.owned.free_owned.Goals as goal
 use Rattle.registry.proofs.owned.free_owned.Goals.{then-is_of, else-is_of}
@@ -40,7 +41,7 @@ loop-slot-preserved g c =
             all = λ _. ap (λ (s : List (Option g.row.T.Denot)). length s) put ∙ length-set slots slot _ ∙ all;
             left = ap (λ (s : List (Option g.row.T.Denot)). map (freed kind.owner owner) s) put ∙ freed_after kind.owner owner slots slot goes ∙ before.left;
             after = λ k high. ap (λ (s : List (Option g.row.T.Denot)). held s k) put ∙ rest_set slots start slot before.after k high;
-            gone = rw put (gone_set kind.owner owner slots slot before.gone within);
+            gone = rw put (gone_set (is_owned kind.owner owner) refl slots slot before.gone within);
           }))
       | else-is_of w ↦
           rw w.records-is (record {
@@ -51,7 +52,7 @@ loop-slot-preserved g c =
             all = λ _. all;
             left = before.left;
             after = λ k high. before.after k (λ low. high (omega (arith, low)));
-            gone = gone_more kind.owner owner slots slot before.gone (sym here ∙ w.if-is_of.false);
+            gone = gone_more (is_owned kind.owner owner) refl slots slot before.gone (sym here ∙ w.if-is_of.false);
           })
     ]
 
