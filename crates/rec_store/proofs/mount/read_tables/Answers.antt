@@ -1,14 +1,17 @@
-use Rattle.std.proofs.Common.{◌≡◌, ◌<◌, ◌++◌, ℕ, List, Option, length, take, drop, ap, sym, subst, ◌∙◌, arith}
-use Rattle.std.specs.Prelude.{All}
+use Rattle.std.proofs.Common.{◌≡◌, ◌<◌, ◌++◌, ℕ, List, Option, Result, length, take, drop, ap, sym, subst, ◌∙◌, arith}
+use Rattle.std.specs.Prelude.{All, IfErr, IsErrAnd}
 use Rattle.std.specs.Vec.{with_items}
 use Rattle.std.proofs.lemmas.List.{take-append-le, take_all}
 use Rattle.card_types.specs.Represents.{used, held}
 use Rattle.card_types.specs.declared.limits.TheConstants.{ENTRIES, FILES, KEYS, OBJECTS}
 use Rattle.card_types.specs.declared.tables.Tables.{Tables}
+use Rattle.flash_core.specs.declared.flash.Flash.{Ghosts as Flash}
 use Rattle.flash_core.specs.declared.page.Page.{Page}
+use Rattle.page_journal.specs.Store.{Store}
 use Rattle.rec_store.specs.Contents.{SlotsFail}
 use Rattle.rec_store.specs.EntrySlot.{HasThreeBytes, HoldsEntry}
 use Rattle.rec_store.specs.FileSlot.{HoldsFile}
+use Rattle.rec_store.specs.Reading.{IsRead}
 use Rattle.rec_store.specs.Reopens.{store_page}
 use Rattle.rec_store.specs.KeySlot.{HoldsKey}
 use Rattle.rec_store.specs.ObjectSlot.{HoldsObject}
@@ -16,10 +19,12 @@ use Rattle.rec_store.specs.Places.{slot_from}
 use Rattle.rec_store.specs.StoredTables.{AreHeld, HoldsTables}
 use Rattle.rec_store.specs.StoreLayout.{FitsLayout}
 use Rattle.rec_store.specs.Superblock.{IsSuperblock}
+use Rattle.rec_store.specs.declared.open.OpenCause.{OpenCause}
 use Rattle.rec_store.specs.declared.store_layout.Layout.{Layout}
 use Rattle.rec_store.proofs.Causes.{fails_later, handed_on, no_card}
 use Rattle.rec_store.proofs.OneRegistry.{one_keys}
 use Rattle.rec_store.proofs.OneThing.{one_layout}
+use Rattle.rec_store.proofs.Readings.{reads_on}
 use Rattle.rec_store.proofs.mount.read_tables.Goals as goal
 
 abbrev NoTables : (ℕ → List ℕ) → Type 0
@@ -28,11 +33,17 @@ NoTables store = (layout : Layout) (t : Tables) → HoldsTables layout store t �
 abbrev BadSlot : {T : Type 0} → (List ℕ → Option T → Type 0) → ℕ → ℕ → ℕ → List Page → Type 0
 BadSlot {T} holds first size count pages = (slot : ℕ) × (slot < count) × ((thing : Option T) → holds (slot_from (store_page pages) first size slot) thing → ⊥)
 
--- a slot that holds nothing is one of no tables
-no_tables : {T : Type 0} (holds : List ℕ → Option T → Type 0) (first size count all : ℕ) (old now : List Page) (items : Tables → List (Option T)) → now ≡ old → count ≡ all
-    → ((layout : Layout) (t : Tables) → HoldsTables layout (store_page old) t → AreHeld holds (slot_from (store_page old) first size) all (items t)) → BadSlot holds first size count now → NoTables (store_page old)
-no_tables holds first size count all old now items same is are bad layout t held_all =
-    bad.2 (held (items t) bad.0) (subst (λ pages. holds (slot_from (store_page pages) first size bad.0) (held (items t) bad.0)) (sym same) (are layout t held_all bad.0 (omega (arith, bad.1, is))))
+-- a slot that holds nothing after reads of the store is one of no tables, and its cause is handed on
+refused : {F T R : Type 0} (device : Flash F) (old mid : Store F) (now : ℕ) → IsRead device old mid → (holds : List ℕ → Option T → Type 0) (first size count all : ℕ) (items : Tables → List (Option T)) → count ≡ all
+    → ((layout : Layout) (t : Tables) → HoldsTables layout (store_page (device.pages old.flash)) t → AreHeld holds (slot_from (store_page (device.pages old.flash)) first size) all (items t))
+    → (result : Result R OpenCause) (given : OpenCause) → IsErrAnd result (λ cause. cause ≡ given) → SlotsFail device.tells (device.faults mid.flash) now (BadSlot holds first size count (device.pages mid.flash)) given
+    → IfErr result (SlotsFail device.tells (device.faults old.flash) now (NoTables (store_page (device.pages old.flash))))
+refused device old mid now read holds first size count all items is are result given same why =
+    handed_on (SlotsFail device.tells (device.faults old.flash) now (NoTables (store_page (device.pages old.flash)))) result given same
+    (fails_later device.tells (device.faults old.flash) (device.faults mid.flash) now (BadSlot holds first size count (device.pages mid.flash)) (NoTables (store_page (device.pages old.flash))) read.later
+    (λ told bad layout t held_all.
+    bad.2 (held (items t) bad.0) (subst (λ pages. holds (slot_from (store_page pages) first size bad.0) (held (items t) bad.0)) (sym (read.seen told)) (are layout t held_all bad.0 (omega (arith, bad.1, is)))))
+    given why)
 
 -- the slots in the place of a table's
 filled : {T : Type 0} (count : ℕ) (items slots : List (Option T)) → count ≡ length items → length slots ≡ length items → take count (slots ++ drop (length slots) items) ≡ slots
@@ -44,39 +55,23 @@ are_held holds first size count all old now slots same is are = subst (λ pages.
 
 pub returns-in_err-read_slots-clause-err : goal.returns-in_err-read_slots-clause-err
 returns-in_err-read_slots-clause-err g c =
-    let F = g.F.Flash in
-    let first = c.args.store.now.flash in
-    handed_on (SlotsFail F.tells (F.faults first) (F.faults c.read_slots.new.store.flash) (NoTables (store_page (F.pages first)))) c.from_residual-in_err-read_slots.result c.in_err-read_slots.field-0.0 c.from_residual-in_err-read_slots.ensures.1
-    (fails_later F.tells (F.faults first) (F.faults c.read_store.new.store.flash) (F.faults c.read_slots.new.store.flash) (BadSlot HoldsEntry 1 64 (length c.deref_mut.result.now) (F.pages c.read_store.new.store.flash)) (NoTables (store_page (F.pages first))) c.read_store.ensures.read.later
-    (λ told. no_tables HoldsEntry 1 64 (length c.deref_mut.result.now) ENTRIES (F.pages first) (F.pages c.read_store.new.store.flash) (λ t. t.entries.items) (c.read_store.ensures.read.seen told) (ap length c.deref_mut.ensures.value ∙ c.requires.slots.entries) (λ layout t held_all. held_all.entries))
-    c.in_err-read_slots.field-0.0 c.in_err-read_slots.ensures.err)
+    refused g.F.Flash c.args.store.now c.read_store.new.store (g.F.Flash.faults c.read_slots.new.store.flash) c.read_store.ensures.read HoldsEntry 1 64 (length c.deref_mut.result.now) ENTRIES (λ t. t.entries.items)
+    (ap length c.deref_mut.ensures.value ∙ c.requires.slots.entries) (λ layout t held_all. held_all.entries) c.from_residual-in_err-read_slots.result c.in_err-read_slots.field-0.0 c.from_residual-in_err-read_slots.ensures.1 c.in_err-read_slots.ensures.err
 
 pub returns-in_err-read_slots-2-clause-err : goal.returns-in_err-read_slots-2-clause-err
 returns-in_err-read_slots-2-clause-err g c =
-    let F = g.F.Flash in
-    let first = c.args.store.now.flash in
-    handed_on (SlotsFail F.tells (F.faults first) (F.faults c.read_slots-2.new.store.flash) (NoTables (store_page (F.pages first)))) c.from_residual-in_err-read_slots-2.result c.in_err-read_slots-2.field-0.0 c.from_residual-in_err-read_slots-2.ensures.1
-    (fails_later F.tells (F.faults first) (F.faults c.read_slots.new.store.flash) (F.faults c.read_slots-2.new.store.flash) (BadSlot HoldsFile 9 256 (length c.deref_mut-2.result.now) (F.pages c.read_slots.new.store.flash)) (NoTables (store_page (F.pages first))) (omega (arith, c.read_store.ensures.read.later, c.in_ok-read_slots.ensures.read.later))
-    (λ told. no_tables HoldsFile 9 256 (length c.deref_mut-2.result.now) FILES (F.pages first) (F.pages c.read_slots.new.store.flash) (λ t. t.files.items) (c.in_ok-read_slots.ensures.read.seen told ∙ c.read_store.ensures.read.seen told) (ap length c.deref_mut-2.ensures.value ∙ c.requires.slots.files) (λ layout t held_all. held_all.files))
-    c.in_err-read_slots-2.field-0.0 c.in_err-read_slots-2.ensures.err)
+    refused g.F.Flash c.args.store.now c.read_slots.new.store (g.F.Flash.faults c.read_slots-2.new.store.flash) (reads_on g.F.Flash c.args.store.now c.read_store.new.store c.read_slots.new.store c.read_store.ensures.read c.in_ok-read_slots.ensures.read) HoldsFile 9 256 (length c.deref_mut-2.result.now) FILES (λ t. t.files.items)
+    (ap length c.deref_mut-2.ensures.value ∙ c.requires.slots.files) (λ layout t held_all. held_all.files) c.from_residual-in_err-read_slots-2.result c.in_err-read_slots-2.field-0.0 c.from_residual-in_err-read_slots-2.ensures.1 c.in_err-read_slots-2.ensures.err
 
 pub returns-in_err-read_slots-3-clause-err : goal.returns-in_err-read_slots-3-clause-err
 returns-in_err-read_slots-3-clause-err g c =
-    let F = g.F.Flash in
-    let first = c.args.store.now.flash in
-    handed_on (SlotsFail F.tells (F.faults first) (F.faults c.read_slots-3.new.store.flash) (NoTables (store_page (F.pages first)))) c.from_residual-in_err-read_slots-3.result c.in_err-read_slots-3.field-0.0 c.from_residual-in_err-read_slots-3.ensures.1
-    (fails_later F.tells (F.faults first) (F.faults c.read_slots-2.new.store.flash) (F.faults c.read_slots-3.new.store.flash) (BadSlot HoldsKey 25 64 (length c.deref_mut-3.result.now) (F.pages c.read_slots-2.new.store.flash)) (NoTables (store_page (F.pages first))) (omega (arith, c.read_store.ensures.read.later, c.in_ok-read_slots.ensures.read.later, c.in_ok-read_slots-2.ensures.read.later))
-    (λ told. no_tables HoldsKey 25 64 (length c.deref_mut-3.result.now) KEYS (F.pages first) (F.pages c.read_slots-2.new.store.flash) (λ t. t.keys.items) (c.in_ok-read_slots-2.ensures.read.seen told ∙ c.in_ok-read_slots.ensures.read.seen told ∙ c.read_store.ensures.read.seen told) (ap length c.deref_mut-3.ensures.value ∙ c.requires.slots.keys) (λ layout t held_all. held_all.keys))
-    c.in_err-read_slots-3.field-0.0 c.in_err-read_slots-3.ensures.err)
+    refused g.F.Flash c.args.store.now c.read_slots-2.new.store (g.F.Flash.faults c.read_slots-3.new.store.flash) (reads_on g.F.Flash c.args.store.now c.read_slots.new.store c.read_slots-2.new.store (reads_on g.F.Flash c.args.store.now c.read_store.new.store c.read_slots.new.store c.read_store.ensures.read c.in_ok-read_slots.ensures.read) c.in_ok-read_slots-2.ensures.read) HoldsKey 25 64 (length c.deref_mut-3.result.now) KEYS (λ t. t.keys.items)
+    (ap length c.deref_mut-3.ensures.value ∙ c.requires.slots.keys) (λ layout t held_all. held_all.keys) c.from_residual-in_err-read_slots-3.result c.in_err-read_slots-3.field-0.0 c.from_residual-in_err-read_slots-3.ensures.1 c.in_err-read_slots-3.ensures.err
 
 pub returns-in_err-read_slots-4-clause-err : goal.returns-in_err-read_slots-4-clause-err
 returns-in_err-read_slots-4-clause-err g c =
-    let F = g.F.Flash in
-    let first = c.args.store.now.flash in
-    handed_on (SlotsFail F.tells (F.faults first) (F.faults c.read_slots-4.new.store.flash) (NoTables (store_page (F.pages first)))) c.from_residual-in_err-read_slots-4.result c.in_err-read_slots-4.field-0.0 c.from_residual-in_err-read_slots-4.ensures.1
-    (fails_later F.tells (F.faults first) (F.faults c.read_slots-3.new.store.flash) (F.faults c.read_slots-4.new.store.flash) (BadSlot HoldsObject 37 128 (length c.deref_mut-4.result.now) (F.pages c.read_slots-3.new.store.flash)) (NoTables (store_page (F.pages first))) (omega (arith, c.read_store.ensures.read.later, c.in_ok-read_slots.ensures.read.later, c.in_ok-read_slots-2.ensures.read.later, c.in_ok-read_slots-3.ensures.read.later))
-    (λ told. no_tables HoldsObject 37 128 (length c.deref_mut-4.result.now) OBJECTS (F.pages first) (F.pages c.read_slots-3.new.store.flash) (λ t. t.objects.items) (c.in_ok-read_slots-3.ensures.read.seen told ∙ c.in_ok-read_slots-2.ensures.read.seen told ∙ c.in_ok-read_slots.ensures.read.seen told ∙ c.read_store.ensures.read.seen told) (ap length c.deref_mut-4.ensures.value ∙ c.requires.slots.objects) (λ layout t held_all. held_all.objects))
-    c.in_err-read_slots-4.field-0.0 c.in_err-read_slots-4.ensures.err)
+    refused g.F.Flash c.args.store.now c.read_slots-3.new.store (g.F.Flash.faults c.read_slots-4.new.store.flash) (reads_on g.F.Flash c.args.store.now c.read_slots-2.new.store c.read_slots-3.new.store (reads_on g.F.Flash c.args.store.now c.read_slots.new.store c.read_slots-2.new.store (reads_on g.F.Flash c.args.store.now c.read_store.new.store c.read_slots.new.store c.read_store.ensures.read c.in_ok-read_slots.ensures.read) c.in_ok-read_slots-2.ensures.read) c.in_ok-read_slots-3.ensures.read) HoldsObject 37 128 (length c.deref_mut-4.result.now) OBJECTS (λ t. t.objects.items)
+    (ap length c.deref_mut-4.ensures.value ∙ c.requires.slots.objects) (λ layout t held_all. held_all.objects) c.from_residual-in_err-read_slots-4.result c.in_err-read_slots-4.field-0.0 c.from_residual-in_err-read_slots-4.ensures.1 c.in_err-read_slots-4.ensures.err
 
 pub returns-clause-held : goal.returns-clause-held
 returns-clause-held g c told =
