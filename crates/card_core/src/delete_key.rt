@@ -1,5 +1,6 @@
 //! DELETE of a key: the keys of a domain with one key version number go (GlobalPlatform Card Specification 2.3.1, 11.2).
 
+ghost use Rattle.std.specs.Prelude.{◌≡◌};
 ghost use Rattle.policy_rules.specs.declared.request.Request.TheVariants.{DeleteKey};
 
 use crate::channel_session::ChannelSession;
@@ -17,6 +18,18 @@ use rec_store::Records;
 pub struct DeleteKeyRequest {
     pub version: u8,
     pub identifier: Option<u8>,
+}
+
+impl DeleteKeyRequest {
+    /// The keys with this key version number, or of them the one with this key identifier.
+    pub fn new(version: u8, identifier: Option<u8>) -> DeleteKeyRequest
+        ensures { result ≡ record { version = version; identifier = identifier } }
+    {
+        DeleteKeyRequest {
+            version,
+            identifier,
+        }
+    }
 }
 
 impl ManagedRequest for DeleteKeyRequest {

@@ -83,11 +83,7 @@ pub fn perform<F: Flash>(
             version,
             keys,
         } => {
-            let keys = PutKeyRequest {
-                replaced: *replaced,
-                version: *version,
-                keys,
-            };
+            let keys = PutKeyRequest::new(*replaced, *version, keys);
             manage(records, live, held, received, &keys, reply)
         }
         Request::Store { objects } => {
@@ -98,10 +94,7 @@ pub fn perform<F: Flash>(
             version,
             identifier,
         } => {
-            let keys = DeleteKeyRequest {
-                version: *version,
-                identifier: *identifier,
-            };
+            let keys = DeleteKeyRequest::new(*version, *identifier);
             manage(records, live, held, received, &keys, reply)
         }
         Request::DeleteObject(request) => manage(records, live, held, received, request, reply),

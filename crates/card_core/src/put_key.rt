@@ -38,6 +38,19 @@ pub struct PutKeyRequest<'a> {
     pub keys: &'a PutKeys<'a>,
 }
 
+impl<'a> PutKeyRequest<'a> {
+    /// The keys with key version number `version`, in the place of those with `replaced`.
+    pub fn new(replaced: u8, version: u8, keys: &'a PutKeys<'a>) -> PutKeyRequest<'a>
+        ensures { result ≡ record { replaced = replaced; version = version; keys = keys.entry } }
+    {
+        PutKeyRequest {
+            replaced,
+            version,
+            keys,
+        }
+    }
+}
+
 impl ManagedRequest for PutKeyRequest<'_> {
     ghost request = { λ request. PutKey request.replaced request.version request.keys.now };
 

@@ -118,7 +118,7 @@ pub manage-requires-clause-changing : goal.manage-requires-clause-changing
 manage-requires-clause-changing g c = (0, omega arith, refl)
 
 pub returns-in-PutKey-clause-done : goal.returns-in-PutKey-clause-done
-returns-in-PutKey-clause-done g c = rw (c.requires.ready.unwritten, c.in-PutKey.is) (c.manage.ensures.done _ _)
+returns-in-PutKey-clause-done g c = rw (c.requires.ready.unwritten, c.in-PutKey.is) ((rw c.new-keys.ensures at c.manage.ensures.done) _ _)
 
 pub manage-requires-in-Store-clause-changing : goal.manage-requires-in-Store-clause-changing
 manage-requires-in-Store-clause-changing g c = (1, omega arith, refl)
@@ -130,7 +130,7 @@ pub manage-requires-in-DeleteKey-clause-changing : goal.manage-requires-in-Delet
 manage-requires-in-DeleteKey-clause-changing g c = (2, omega arith, refl)
 
 pub returns-in-DeleteKey-clause-done : goal.returns-in-DeleteKey-clause-done
-returns-in-DeleteKey-clause-done g c = rw (c.requires.ready.unwritten, c.in-DeleteKey.is) (c.manage-in-DeleteKey.ensures.done _ _)
+returns-in-DeleteKey-clause-done g c = rw (c.requires.ready.unwritten, c.in-DeleteKey.is) ((rw c.new-keys-in-DeleteKey.ensures at c.manage-in-DeleteKey.ensures.done) _ _)
 
 pub manage-requires-in-DeleteObject-clause-changing : goal.manage-requires-in-DeleteObject-clause-changing
 manage-requires-in-DeleteObject-clause-changing g c = (2, omega arith, refl)
