@@ -55,11 +55,7 @@ module _ (tables : Tables) where
 
   pub of_delete : (act : Act) (spot : List (List ℕ)) → HasSpot tables 0 act spot → (thing : Found) × (aid : List ℕ) × HasThing tables thing aid × (spot ≡ alone aid)
   of_delete (slot.Delete thing) spot has = (thing, found_aid tables thing, thing_aid thing has.0, sym (same_spot _ _ _ _ has.1))
-  of_delete (slot.Related file) spot has = absurd (omega (arith, same_kind _ _ _ _ has.1))
-  of_delete (slot.Lock entry) spot has = absurd (omega (arith, same_kind _ _ _ _ has.1))
-  of_delete (slot.Move thing domain) spot has = absurd (omega (arith, same_kind _ _ _ _ has.1))
-  of_delete (slot.Install file) spot has = absurd (omega (arith, same_kind _ _ _ _ has.1))
-  of_delete slot.Load spot has = absurd (omega (arith, same_kind _ _ _ _ has.1))
+  of_delete _ spot has = absurd (omega (arith, same_kind _ _ _ _ has.1))
 
   -- DELETE of Executable Load Files
   pub to_related : (file : ℕ) (aid : List ℕ) → HasFile tables file aid → HasSpot tables 1 (slot.Related file) (alone aid)
@@ -71,9 +67,7 @@ module _ (tables : Tables) where
   of_related (slot.Related file) spot has =
       (file, file_aid tables.files.items file, of_name (λ (f : LoadFile). f.aid) (held tables.files.items file) has.0, sym (same_spot _ _ _ _ has.1))
   of_related (slot.Lock entry) spot has = absurd (omega (arith, same_kind _ _ _ _ has.1))
-  of_related (slot.Move thing domain) spot has = absurd (omega (arith, same_kind _ _ _ _ has.1))
-  of_related (slot.Install file) spot has = absurd (omega (arith, same_kind _ _ _ _ has.1))
-  of_related slot.Load spot has = absurd (omega (arith, same_kind _ _ _ _ has.1))
+  of_related _ spot has = absurd (omega (arith, same_kind _ _ _ _ has.1))
 
   -- SET STATUS of entries
   pub to_lock : (entry : ℕ) (aid : List ℕ) → HasEntry tables entry aid → HasSpot tables 2 (slot.Lock entry) (alone aid)
@@ -86,8 +80,7 @@ module _ (tables : Tables) where
   of_lock (slot.Lock entry) spot has =
       (entry, domain_aid tables.entries.items entry, of_name (λ (e : Entry). e.aid) (held tables.entries.items entry) has.0, sym (same_spot _ _ _ _ has.1))
   of_lock (slot.Move thing domain) spot has = absurd (omega (arith, same_kind _ _ _ _ has.1))
-  of_lock (slot.Install file) spot has = absurd (omega (arith, same_kind _ _ _ _ has.1))
-  of_lock slot.Load spot has = absurd (omega (arith, same_kind _ _ _ _ has.1))
+  of_lock _ spot has = absurd (omega (arith, same_kind _ _ _ _ has.1))
 
   -- INSTALL [for install and make selectable] from Executable Load Files
   pub to_install : (file : ℕ) (aid : List ℕ) → HasFile tables file aid → HasSpot tables 4 (slot.Install file) (alone aid)
@@ -105,12 +98,8 @@ module _ (tables : Tables) where
 
   -- INSTALL [for load]
   of_load : (act : Act) (spot : List (List ℕ)) → HasSpot tables 5 act spot → spot ≡ [] ∷ [] ∷ []
-  of_load (slot.Delete thing) spot has = absurd (omega (arith, same_kind _ _ _ _ has.1))
-  of_load (slot.Related file) spot has = absurd (omega (arith, same_kind _ _ _ _ has.1))
-  of_load (slot.Lock entry) spot has = absurd (omega (arith, same_kind _ _ _ _ has.1))
-  of_load (slot.Move thing domain) spot has = absurd (omega (arith, same_kind _ _ _ _ has.1))
-  of_load (slot.Install file) spot has = absurd (omega (arith, same_kind _ _ _ _ has.1))
   of_load slot.Load spot has = sym (same_spot _ _ _ _ has.1)
+  of_load _ spot has = absurd (omega (arith, same_kind _ _ _ _ has.1))
 
   pub load_is_next : IsNext (HasSpot tables 5) place_order None slot.Load
   load_is_next = record {

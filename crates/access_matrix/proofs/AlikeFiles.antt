@@ -131,38 +131,27 @@ module _ (life : CardLife) (entries : List Entry) (keys : List Key) (counters : 
     installing_back asked II4 (inl entry) = inl entry
     installing_back asked II4 (inr (inl file)) = inr (inl (some_back (file_named (with_files fs) asked.given.third) (file_named (with_files gs) asked.given.third) (alike.named asked.given.third) file))
     installing_back asked II4 (inr (inr load)) = inr (inr load)
-    installing_back asked II5 fails = fails
-    installing_back asked II6 fails = fails
-    installing_back asked II7 fails = fails
+    installing_back asked _ fails = fails
 
     moving_back : (given : InstallData) (rule : RuleEX) → ExtraditingFails B given rule → ExtraditingFails A given rule
-    moving_back given EX1 fails = fails
     moving_back given EX2 (inl none) = inl (none.0, none_back (file_named (with_files fs) given.third) (file_named (with_files gs) given.third) (alike.named given.third) none.1)
     moving_back given EX2 (inr other) = inr other
-    moving_back given EX3 fails = fails
     moving_back given EX4 fails = λ charge. fails (charge_forth given.third charge)
-    moving_back given EX5 fails = fails
-    moving_back given EX6 fails = fails
     moving_back given EX7 (inl own) = inl own
     moving_back given EX7 (inr (holds, inl root)) = inr (holds, inl root)
     moving_back given EX7 (inr (holds, inr (inl none))) = inr (holds, inr (inl none))
     moving_back given EX7 (inr (holds, inr (inr far))) = inr (holds, inr (inr (far.0, far.1, holder_back _ _ domain far.0 far.1 far.2, far.3)))
+    moving_back given _ fails = fails
 
     loading_back : (given : LoadData) (rule : RuleIL) → InstallingLoadFails B given rule → InstallingLoadFails A given rule
-    loading_back given IL1 fails = fails
-    loading_back given IL2 fails = fails
     loading_back given IL3 (inl entry) = inl entry
     loading_back given IL3 (inr file) = inr (some_back (file_named (with_files fs) given.file) (file_named (with_files gs) given.file) (alike.named given.file) file)
-    loading_back given IL4 fails = fails
-    loading_back given IL5 fails = fails
-    loading_back given IL6 fails = fails
     loading_back given IL7 fails = subst (λ count. FILES ≤ count) (sym alike.size) fails
+    loading_back given _ fails = fails
 
     setting_back : (asked : Unit {0}) (rule : RuleSS) → SettingStatusFails B rule → SettingStatusFails A rule
-    setting_back asked SS1 fails = fails
-    setting_back asked SS2 fails = fails
     setting_back asked SS3 fails = (fails.0, fails.1, λ itself. fails.2 (record { itself = itself.itself; one = itself.one; code = itself.code }))
-    setting_back asked SS4 fails = fails
+    setting_back asked _ fails = fails
 
     -- whatever was asked for, a rule of the form's own fails alike
     own_back : (form : JudgedForm) → ((asked : form.Asked) (own : form.own.One) → form.own.fails B asked own → form.own.fails A asked own) → (rule : Rule)

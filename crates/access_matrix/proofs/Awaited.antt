@@ -37,11 +37,7 @@ deed_at place = Load
 at_place : (deed : Deed) → deed_at (deed_place deed) ≡ deed
 unfolding deed_at
 at_place (Delete aid) = refl
-at_place (Related file) = refl
-at_place (Lock aid) = refl
-at_place (Move aid domain) = refl
-at_place (Install file) = refl
-at_place Load = refl
+at_place _ = refl
 
 pub same_deed : (a b : Deed) → deed_place a ≡ deed_place b → a ≡ b
 same_deed a b is = sym (at_place a) ∙ ap deed_at is ∙ at_place b

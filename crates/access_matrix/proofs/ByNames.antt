@@ -163,12 +163,8 @@ module _ (page : ℕ → List ℕ) (tables : Tables) (said : registry.Registry) 
       ∙ ap is_locked (entry_in_slot page tables said says slot entry.0 entry.1) ∙ sym (ap holds_locked entry.1)
 
   verb_is : (act : Act) → AreUsed tables act → verb_as (is_about_locked tables act) (deed_of tables act) ≡ verb_of said (deed_of tables act)
-  verb_is (slot.Delete thing) is = refl
-  verb_is (slot.Related file) is = refl
   verb_is (slot.Lock entry) is = sym (ap (λ locked. cond locked (codes "unlock ") (codes "lock ")) (locked_in_slot entry is))
-  verb_is (slot.Move thing domain) is = refl
-  verb_is (slot.Install file) is = refl
-  verb_is slot.Load is = refl
+  verb_is _ is = refl
 
   pub line_is : (c : Candidate) → IsCandidate tables c → line_as (is_about_locked tables c.act) (right_of tables c) ≡ line_of said (right_of tables c)
   line_is c is =

@@ -115,17 +115,11 @@ module _ (registry : Registry) (well : Well registry) (domain : List ℕ) where
 
 -- the form is one of those of its instruction, and no rule stands before those on it
 pub form_listed : (deed : Deed) → IsListed (form_of deed)
-form_listed (Delete aid) P is = inr (inl is)
-form_listed (Related file) P is = inr (inl is)
-form_listed (Lock aid) P is = inr (inl is)
 form_listed (Move aid to) P is = inr (inr (inl is))
 form_listed (Install file) P is = inl is
 form_listed Load P is = inr (inr (inr (inl is)))
+form_listed _ P is = inr (inl is)
 
 pub none_before : (deed : Deed) → rules_before_form (form_of deed).instruction ≡ []
 none_before (Delete aid) = refl
-none_before (Related file) = refl
-none_before (Lock aid) = refl
-none_before (Move aid to) = refl
-none_before (Install file) = refl
-none_before Load = refl
+none_before _ = refl

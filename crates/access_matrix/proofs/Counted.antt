@@ -124,12 +124,8 @@ module _ (tables : Tables) where
   act_thing slot.Load is = has_none
 
   act_goal : (act : Act) → AreUsed tables act → Contains (aids_of tables) (goal_of (deed_of tables act))
-  act_goal (slot.Delete thing) is = has_none
-  act_goal (slot.Related file) is = has_none
-  act_goal (slot.Lock entry) is = has_none
   act_goal (slot.Move thing domain) is = has_domain domain is.1
-  act_goal (slot.Install file) is = has_none
-  act_goal slot.Load is = has_none
+  act_goal _ is = has_none
 
   act_kind : (act : Act) → Contains kinds (kind_of (deed_of tables act))
   unfolding kinds

@@ -28,11 +28,7 @@ one_kind k l is = cc
 
 pub kind_below : (deed : Deed) → kind_of deed < 6
 kind_below (Delete aid) = omega arith
-kind_below (Related file) = omega arith
-kind_below (Lock aid) = omega arith
-kind_below (Move aid domain) = omega arith
-kind_below (Install file) = omega arith
-kind_below Load = omega arith
+kind_below _ = omega arith
 
 module _ (tables : Tables) where
   kind_is : (k : ℕ) (act : Act) (spot : List (List ℕ)) → HasSpot tables k act spot → kind_of (deed_of tables act) ≡ k

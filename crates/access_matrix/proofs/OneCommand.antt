@@ -37,12 +37,8 @@ one_lock (Some entry) p q one other = one ∙ sym other
 
 module _ (registry : Registry) where
   one_p2 : (deed : Deed) (p q : ℕ) → HasP2 registry deed p → HasP2 registry deed q → p ≡ q
-  one_p2 (Delete aid) p q one other = one ∙ sym other
-  one_p2 (Related file) p q one other = one ∙ sym other
   one_p2 (Lock aid) p q one other = one_lock (entry_named registry aid) p q one other
-  one_p2 (Move aid domain) p q one other = one ∙ sym other
-  one_p2 (Install file) p q one other = one ∙ sym other
-  one_p2 Load p q one other = one ∙ sym other
+  one_p2 _ p q one other = one ∙ sym other
 
   -- what stands before the token of an installation
   abbrev install_front : (file new : List ℕ) → List ℕ
@@ -52,12 +48,9 @@ module _ (registry : Registry) where
   load_front new = flat_map with_length (new ∷ [] ∷ replicate 32 0 ∷ [] ∷ [])
 
   one_front : (deed : Deed) (a b : List ℕ) → HasFront registry deed a → HasFront registry deed b → a ≡ b
-  one_front (Delete aid) a b one other = one ∙ sym other
-  one_front (Related file) a b one other = one ∙ sym other
-  one_front (Lock aid) a b one other = one ∙ sym other
-  one_front (Move aid domain) a b one other = one ∙ sym other
   one_front (Install file) a b one other = one.2 ∙ ap (install_front file) (one_free registry one.0 other.0 one.1 other.1) ∙ sym other.2
   one_front Load a b one other = one.2 ∙ ap load_front (one_free registry one.0 other.0 one.1 other.1) ∙ sym other.2
+  one_front _ a b one other = one ∙ sym other
 
   module _ (domain : List ℕ) where
     one_given : (D E : Type 0) → (D → E) → (E → D) → (p1 p q : ℕ) (front another : List ℕ) → p ≡ q → front ≡ another → (a b : Option (List ℕ))
@@ -75,11 +68,7 @@ module _ (registry : Registry) where
     still_delegated : (deed : Deed) (a b : Apdu) → (judged_as deed).delegation.is_delegated (judged_there registry domain a)
         → (judged_as deed).delegation.is_delegated (judged_there registry domain b)
     still_delegated (Delete aid) a b is = is
-    still_delegated (Related file) a b is = is
-    still_delegated (Lock aid) a b is = is
-    still_delegated (Move aid to) a b is = is
-    still_delegated (Install file) a b is = is
-    still_delegated Load a b is = is
+    still_delegated _ a b is = is
 
     pub one_command : (deed : Deed) (a b : Apdu) → IsCommandOf registry domain deed a → IsCommandOf registry domain deed b → a ≡ b
     one_command deed a b one other =

@@ -13,8 +13,7 @@ not_greater o less greater = cc
 
 then_equal_right : (o : Ordering) → ordering_then o Equal ≡ o
 then_equal_right Less = refl
-then_equal_right Equal = refl
-then_equal_right Greater = refl
+then_equal_right _ = refl
 
 -- a lower first part decides, and after the same one the rest does
 pub lower_first : (a a' : List ℕ) (b b' : List (List ℕ)) → aid_order a a' ≡ Less → place_order (a ∷ b) (a' ∷ b') ≡ Less

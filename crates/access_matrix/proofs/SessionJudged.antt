@@ -26,9 +26,7 @@ instruction_of : (deed : Deed) → IsOfDeed (judged_as deed).instruction
 instruction_of (Delete aid) = inl refl
 instruction_of (Related file) = inl refl
 instruction_of (Lock aid) = inr (inr refl)
-instruction_of (Move aid to) = inr (inl refl)
-instruction_of (Install file) = inr (inl refl)
-instruction_of Load = inr (inl refl)
+instruction_of _ = inr (inl refl)
 
 other_than : (ins number : ℕ) → IsOfDeed ins → number ≢ 0xE4 → number ≢ 0xE6 → number ≢ 0xF0 → ins ≢ number
 other_than ins number (inl is) e4 e6 f0 same = e4 (sym same ∙ is)
