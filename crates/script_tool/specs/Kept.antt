@@ -5,8 +5,6 @@ use Rattle.scp03_card.specs.Session.{Session}
 use Rattle.scp03_host.specs.declared.refusals.ReplyRefusal.{ReplyRefusal}
 use Rattle.script_lines.specs.declared.channel.Channel.{Channel}
 use Rattle.script_lines.specs.declared.channel.Channel.TheVariants.{Basic, First, Second, Third}
-use Rattle.script_lines.specs.declared.keys.OfSize.{OfSize}
-use Rattle.script_lines.specs.declared.keys.OfSize.TheVariants.{Aes128, Aes192, Aes256}
 use Rattle.script_tool.specs.Host.{Host, Sessions}
 use Rattle.script_tool.specs.InSession.{refusal_word}
 use Rattle.script_tool.specs.Printed.{Printed, Nothing, Reply, Opened, Cryptogram, Said, Differs}
@@ -66,10 +64,3 @@ printed_of (printout.Opened counter status) = Opened counter status.0
 printed_of (printout.Cryptogram counter) = Cryptogram counter
 printed_of (printout.Said word) = Said word
 printed_of (printout.Differs want got) = Differs want.0 (option_map (λ status. status.0) got)
-
--- For the code inside. What the code keeps of a session under keys of any length.
-
-abbrev pub kept_of : OfSize KeptSession KeptSession KeptSession → KeptSession
-kept_of (Aes128 session) = session
-kept_of (Aes192 session) = session
-kept_of (Aes256 session) = session

@@ -7,6 +7,8 @@ pub mod InSession
 pub mod Kept
 pub mod Printed
 pub mod Kinds
+pub mod KeptSession
+pub mod Lead
 pub mod Link
 pub mod Loading
 pub mod Once

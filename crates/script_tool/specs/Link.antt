@@ -2,15 +2,9 @@
 use Rattle.std.specs.Prelude.{◌≡◌, ℕ, List, false, [], ◌∷◌, ◌++◌, map}
 use Rattle.policy_machine.specs.Run.{Input, Command as Given, Reset as PowerOff}
 use Rattle.policy_machine.specs.State.{State, powered_on}
-use Rattle.policy_machine.specs.Step.{Outcome, Step}
+use Rattle.script_tool.specs.Lead.{LeadsTo}
 use Rattle.script_tool.specs.Talk.{Answered, Event, Reset}
 use Rattle.script_tool.specs.declared.link.CardLink.{Ghosts as CardLink}
-
--- What a command does to a card at the other end of a link.
-
--- the bytes lead a card from one state to another, with this reply
-abbrev pub LeadsTo : State → List ℕ → List ℕ → State → Type 0
-LeadsTo state command reply last = (outcome : Outcome) × Step state command outcome × (reply ≡ outcome.reply) × (last ≡ outcome.state)
 
 -- the events lead a card from one state to another
 abbrev pub LeadOn : State → List Event → State → Type 0

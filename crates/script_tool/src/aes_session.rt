@@ -27,7 +27,7 @@ pub struct AesSession {
 // Contracts see the session, and not the kind.
 impl Model for AesSession {
     ghost use Rattle.scp03_card.specs.Kept.{KeptSession};
-    ghost use Rattle.script_tool.specs.Kept.{kept_of};
+    ghost use Rattle.script_tool.specs.KeptSession.{kept_of};
 
     ghost Value = { KeptSession };
 

@@ -4,7 +4,7 @@ ghost use Rattle.std.specs.Prelude.{◌≡◌, ◌++◌, [], ◌∷◌, ℕ, Lis
 ghost use Rattle.faults.specs.Faults.{HasCause};
 ghost use Rattle.policy_machine.specs.Run.{Input, Command, Reset};
 ghost use Rattle.policy_machine.specs.State.{State, powered_on};
-ghost use Rattle.script_tool.specs.Link.{LeadsTo};
+ghost use Rattle.script_tool.specs.Lead.{LeadsTo};
 ghost use Rattle.script_tool.specs.Talk.{Answered, Event};
 ghost use Rattle.script_tool.specs.Talk.{Reset as PowerOff};
 
