@@ -10,7 +10,6 @@ pub mod RoundLines
 pub mod ShortCommand
 pub mod Spelled
 pub mod Split
-pub mod Verbs
 pub mod WideWords
 pub mod Workload
 pub mod WorkloadLines

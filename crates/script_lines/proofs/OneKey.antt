@@ -94,10 +94,10 @@ sized_digits words (Aes192 keys) x = new_digits 24 words keys x
 sized_digits words (Aes256 keys) x = new_digits 32 words keys x
 
 pub one_putting : (words : List (List ℕ)) (a b : Putting) → SaysPutKey words a → SaysPutKey words b → a ≡ b
-one_putting (verb ∷ old ∷ new ∷ words) a b x y =
-    let r = one_byte old a.replaced b.replaced x.1 y.1 in
-    let v = one_byte new a.version b.version x.2 y.2 in
-    let k = one_sized (SpellSized words) (length (first words)) (sized_digits words) (one_new 16 words) (one_new 24 words) (one_new 32 words) a.keys b.keys x.3 y.3 in
+one_putting (old ∷ new ∷ words) a b x y =
+    let r = one_byte old a.replaced b.replaced x.0 y.0 in
+    let v = one_byte new a.version b.version x.1 y.1 in
+    let k = one_sized (SpellSized words) (length (first words)) (sized_digits words) (one_new 16 words) (one_new 24 words) (one_new 32 words) a.keys b.keys x.2 y.2 in
     λ i. record { replaced = r i; version = v i; keys = k i }
 one_putting _ a b x y = absurd x
 

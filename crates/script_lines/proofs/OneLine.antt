@@ -5,7 +5,9 @@ use Rattle.std.specs.List.{onto_first}
 use Rattle.std.proofs.lemmas.List.Elements.{All-head}
 use Rattle.script_lines.proofs.OneControl.{begins_control, one_control, verb_of_control}
 use Rattle.script_lines.proofs.OneKey.{first}
-use Rattle.script_lines.proofs.OneVerb.{begins, one_exchange, verb_of}
+use Rattle.script_lines.proofs.OneVerb.{begins, one_exchange}
+use Rattle.script_lines.specs.Exchange.{verb_of}
+use Rattle.script_lines.specs.Verb.{word_of}
 use Rattle.script_lines.specs.Line.{IsBlank, IsComment, OneLine, SaysLine, SaysQuietly}
 use Rattle.script_lines.specs.Words.{words_of}
 use Rattle.script_lines.specs.declared.control.Control as control
@@ -47,7 +49,7 @@ control_kind (Tokens (Made key)) = refl
 control_kind (Tokens (Damaged key)) = refl
 control_kind (Want status) = refl
 
-exchange_kind : (e : exchange.Exchange) → kind (verb_of e) ≡ 3
+exchange_kind : (e : exchange.Exchange) → kind (word_of (verb_of e)) ≡ 3
 unfolding kind sends_nothing
 exchange_kind (Select aid) = refl
 exchange_kind (Raw bytes) = refl

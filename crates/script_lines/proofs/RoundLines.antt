@@ -34,10 +34,10 @@ unfolding SpellsByte SpellsSome decode_pairs encode_with
 open_line r h =
     let level = level_digits r.level h.level.0 h.level.1 in
     let challenge = challenge_digits r in (
-      says (codes "open") (codes "00" ∷ digits_of r.level ∷ challenge_of r ∷ [])
-          (Open (record { version = 0x00; level = h.level.0; challenge = to_be_bytes w64 r.challenge })) (plain (codes "open") refl)
+      says (codes "00" ∷ digits_of r.level ∷ challenge_of r ∷ [])
+          (Open (record { version = 0x00; level = h.level.0; challenge = to_be_bytes w64 r.challenge })) refl
           (plain (codes "00") refl, (spelled_out (digits_of r.level) _ level, (spelled_out (challenge_of r) _ challenge, tt)))
-          (refl, refl, level, (challenge, refl)),
+          (refl, level, (challenge, refl)),
       omega arith,
     )
 
@@ -45,8 +45,8 @@ store_line : (r : Round) → IsLine (codes "store 4508" ++ challenge_of r)
 unfolding SpellsUpTo encode_with
 store_line r =
     let stored = stored_digits r in (
-      says (codes "store") ((codes "4508" ++ challenge_of r) ∷ []) (Store (record { items = 0x45 ∷ 0x08 ∷ to_be_bytes w64 r.challenge }))
-          (plain (codes "store") refl) (spelled_out (codes "4508" ++ challenge_of r) _ stored, tt) (refl, (stored, omega arith, omega arith)),
+      says ((codes "4508" ++ challenge_of r) ∷ []) (Store (record { items = 0x45 ∷ 0x08 ∷ to_be_bytes w64 r.challenge }))
+          refl (spelled_out (codes "4508" ++ challenge_of r) _ stored, tt) (stored, omega arith, omega arith),
       omega arith,
     )
 
@@ -63,11 +63,10 @@ load_line r h =
     let file_word = spelled_out (file_of r) _ file in
     let number_word = number r.count (omega (arith, most)) in
     subst (λ l. IsLine (codes "load " ++ file_of r ++ codes " - none fill " ++ l)) (sym regrouped) (
-      says (codes "load") (file_of r ∷ codes "-" ∷ codes "none" ∷ codes "fill" ∷ decimal r.count ∷ digits_of r.byte ∷ [])
+      says (file_of r ∷ codes "-" ∷ codes "none" ∷ codes "fill" ∷ decimal r.count ∷ digits_of r.byte ∷ [])
           (Load (record { file = aid_bytes r 0x01; domain = None; hash = None; content = Filled (record { count = r.count; byte = r.byte }) }))
-          (plain (codes "load") refl)
-          (file_word, (plain (codes "-") refl, (plain (codes "none") refl, (plain (codes "fill") refl, (number_word, (spelled_out (digits_of r.byte) _ byte, tt))))))
-          (refl, (file, (omega arith, omega arith)), refl, refl, (refl, (refl, least, omega (arith, most)), byte)),
+          refl (file_word, (plain (codes "-") refl, (plain (codes "none") refl, (plain (codes "fill") refl, (number_word, (spelled_out (digits_of r.byte) _ byte, tt))))))
+          ((file, (omega arith, omega arith)), refl, refl, (refl, (refl, least, omega (arith, most)), byte)),
       omega (arith, digits, whole),
     )
 
@@ -78,7 +77,7 @@ install_line r =
     let application = application_digits r in
     let file_word = spelled_out (file_of r) _ file in
     let word = spelled_out (application_of r) _ application in (
-      says (codes "install") (codes "04" ∷ file_of r ∷ application_of r ∷ application_of r ∷ codes "00" ∷ codes "c900" ∷ [])
+      says (codes "04" ∷ file_of r ∷ application_of r ∷ application_of r ∷ codes "00" ∷ codes "c900" ∷ [])
           (Install (record {
             selectable = false;
             file = aid_bytes r 0x01;
@@ -87,8 +86,7 @@ install_line r =
             privileges = record { items = 0x00 ∷ [] };
             parameters = record { items = 0xc9 ∷ 0x00 ∷ [] };
           }))
-          (plain (codes "install") refl) (plain (codes "04") refl, (file_word, (word, (word, (plain (codes "00") refl, (plain (codes "c900") refl, tt)))))) (
-            refl,
+          refl (plain (codes "04") refl, (file_word, (word, (word, (plain (codes "00") refl, (plain (codes "c900") refl, tt)))))) (
             refl,
             (file, (omega arith, omega arith)),
             (application, (omega arith, omega arith)),
@@ -103,16 +101,16 @@ selectable_line : (r : Round) → IsLine (codes "selectable " ++ application_of 
 unfolding SpellsAid encode_with
 selectable_line r =
     let application = application_digits r in (
-      says (codes "selectable") (application_of r ∷ []) (Selectable (aid_bytes r 0x02)) (plain (codes "selectable") refl)
-          (spelled_out (application_of r) _ application, tt) (refl, (application, (omega arith, omega arith))),
+      says (application_of r ∷ []) (Selectable (aid_bytes r 0x02)) refl
+          (spelled_out (application_of r) _ application, tt) (application, (omega arith, omega arith)),
       omega arith,
     )
 
 list_line : IsLine (codes "list 40")
 unfolding SpellsByte decode_pairs
 list_line = (
-  says (codes "list") (codes "40" ∷ []) (Listed (record { p1 = 0x40; prefix = record { items = [] } })) (plain (codes "list") refl)
-      (plain (codes "40") refl, tt) (refl, refl, refl),
+  says (codes "40" ∷ []) (Listed (record { p1 = 0x40; prefix = record { items = [] } })) refl
+      (plain (codes "40") refl, tt) (refl, refl),
   omega arith,
 )
 
@@ -122,9 +120,9 @@ unfolding SpellsAid SpellsByte decode_pairs encode_with
 life_line r word p2 spells two =
     let application = application_digits r in
     let whole = length-append word (32 ∷ application_of r) in (
-      says (codes "life") (codes "40" ∷ word ∷ application_of r ∷ []) (Life (record { p1 = 0x40; p2 = p2; aid = Some (aid_bytes r 0x02) }))
-          (plain (codes "life") refl) (plain (codes "40") refl, (spelled_out word _ spells, (spelled_out (application_of r) _ application, tt)))
-          (refl, refl, spells, (application, (omega arith, omega arith))),
+      says (codes "40" ∷ word ∷ application_of r ∷ []) (Life (record { p1 = 0x40; p2 = p2; aid = Some (aid_bytes r 0x02) }))
+          refl (plain (codes "40") refl, (spelled_out word _ spells, (spelled_out (application_of r) _ application, tt)))
+          (refl, spells, (application, (omega arith, omega arith))),
       omega (arith, two, whole),
     )
 
@@ -140,8 +138,8 @@ delete_line : (r : Round) → IsLine (codes "delete " ++ file_of r ++ codes " 80
 unfolding SpellsAid SpellsByte decode_pairs encode_with
 delete_line r =
     let file = file_digits r in (
-      says (codes "delete") (file_of r ∷ codes "80" ∷ []) (Delete (record { aid = aid_bytes r 0x01; p2 = 0x80 })) (plain (codes "delete") refl)
-          (spelled_out (file_of r) _ file, (plain (codes "80") refl, tt)) (refl, (file, (omega arith, omega arith)), refl),
+      says (file_of r ∷ codes "80" ∷ []) (Delete (record { aid = aid_bytes r 0x01; p2 = 0x80 })) refl
+          (spelled_out (file_of r) _ file, (plain (codes "80") refl, tt)) ((file, (omega arith, omega arith)), refl),
       omega arith,
     )
 

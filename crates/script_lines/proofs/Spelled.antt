@@ -16,7 +16,8 @@ use Rattle.card_types.specs.Level.{code_of}
 use Rattle.card_types.specs.declared.level.Level.{Level}
 use Rattle.card_types.specs.declared.level.Level.TheVariants.{Mac, EncMac, MacR, EncMacR, Full}
 use Rattle.script_lines.proofs.Split.{one_word}
-use Rattle.script_lines.specs.Exchange.{SaysExchange}
+use Rattle.script_lines.specs.Exchange.{SayAfterVerb, SaysExchange, verb_of}
+use Rattle.script_lines.specs.Verb.{word_of}
 use Rattle.script_lines.specs.Round.{application_of, challenge_of, digits_of, file_of}
 use Rattle.script_lines.specs.Words.{HasNoSpace, words_of}
 use Rattle.script_lines.specs.Workload.{SaysSome}
@@ -59,8 +60,10 @@ words_back word [] none rest = one_word word none
 words_back word (next ∷ words) none rest =
     slice_split_at (λ byte. byte == 32) word 32 (line_of next words) none refl ∙ ap (λ l. word ∷ l) (words_back next words rest.0 rest.1)
 
-pub says : (word : List ℕ) (words : List (List ℕ)) (e : exchange.Exchange) → HasNoSpace word → AllByRecursion HasNoSpace words → SaysExchange (word ∷ words) e → SaysSome (line_of word words)
-says word words e none rest said = (Exchange e, subst (λ (l : List (List ℕ)). SaysExchange l e) (sym (words_back word words none rest)) said)
+pub says : (words : List (List ℕ)) (e : exchange.Exchange) → list_all not_space (word_of (verb_of e)) ≡ true → AllByRecursion HasNoSpace words → SayAfterVerb words e
+    → SaysSome (line_of (word_of (verb_of e)) words)
+says words e none rest said =
+    (Exchange e, subst (λ (l : List (List ℕ)). SaysExchange l e) (sym (words_back (word_of (verb_of e)) words (plain (word_of (verb_of e)) none) rest)) (refl, said))
 
 -- ---- what the words of a round spell
 

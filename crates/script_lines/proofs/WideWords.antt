@@ -3,9 +3,9 @@ use Rattle.std.proofs.Common.{◌≡◌, ◌≤◌, ◌+◌, ◌*◌, ℕ, List,
 use Rattle.std.specs.List.{join_with_byte}
 use Rattle.std.proofs.lemmas.List.Splits.{join_with_byte-slice_split}
 use Rattle.script_lines.proofs.OneKey.{first}
-use Rattle.script_lines.proofs.OneVerb.{begins, verb_of}
-use Rattle.script_lines.specs.Exchange.{SaysExchange}
-use Rattle.script_lines.specs.Load.{SaysLoad}
+use Rattle.script_lines.proofs.OneVerb.{begins}
+use Rattle.script_lines.specs.Exchange.{SaysExchange, verb_of}
+use Rattle.script_lines.specs.Verb.{word_of}
 use Rattle.script_lines.specs.Words.{words_of}
 use Rattle.script_lines.specs.declared.exchange.Exchange as the_type
 use Rattle.script_lines.specs.declared.exchange.Exchange.TheVariants.{Select, Raw, Open, Send, Bad, Install, Selectable, Extradite, Load, Delete, PutKey, Store, Life, List as Listed, More}
@@ -39,7 +39,7 @@ first_wide (word ∷ words) = omega arith
 at_least : (n : ℕ) → 3 ≤ 3 + n
 at_least n = omega arith
 
-verb_long : (e : the_type.Exchange) → 3 ≤ length (verb_of e)
+verb_long : (e : the_type.Exchange) → 3 ≤ length (word_of (verb_of e))
 verb_long (Select aid) = at_least 3
 verb_long (Raw bytes) = at_least 0
 verb_long (Open opening) = at_least 1
@@ -57,14 +57,14 @@ verb_long (Listed listing) = at_least 1
 verb_long (More listing) = at_least 1
 
 -- a line that loads a file
-pub load_wide : (words : List (List ℕ)) (file : LoadFile) → SaysLoad words file → 253 + 60 ≤ 60 * wide words
+pub load_wide : (words : List (List ℕ)) (file : LoadFile) → SaysExchange words (Load file) → 253 + 60 ≤ 60 * wide words
 load_wide (verb ∷ file ∷ domain ∷ hash ∷ content) l x =
     let long : length verb ≡ 4 = ap (λ (word : List ℕ). length word) x.0 in
     omega (arith, long)
 load_wide [] l x = absurd x
-load_wide (a ∷ []) l x = absurd x
-load_wide (a ∷ b ∷ []) l x = absurd x
-load_wide (a ∷ b ∷ c ∷ []) l x = absurd x
+load_wide (a ∷ []) l x = absurd x.1
+load_wide (a ∷ b ∷ []) l x = absurd x.1
+load_wide (a ∷ b ∷ c ∷ []) l x = absurd x.1
 
 -- any line that sends
 pub other_wide : (words : List (List ℕ)) (e : the_type.Exchange) → SaysExchange words e → 2 + 60 ≤ 60 * wide words

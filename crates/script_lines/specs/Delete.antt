@@ -1,5 +1,5 @@
 -- `delete AID P2` is DELETE of an object (GlobalPlatform Card Specification 2.3.1, 11.2).
-use Rattle.std.specs.Prelude.{◌≡◌, ℕ, List, [], ◌∷◌, codes, ◌++◌}
+use Rattle.std.specs.Prelude.{ℕ, List, [], ◌∷◌, ◌++◌}
 use Rattle.script_lines.specs.Words.{SpellsAid, SpellsByte}
 use Rattle.script_lines.specs.declared.deletion.Deletion.{Deletion}
 use Rattle.apdu_core.specs.Apdu.{Apdu}
@@ -10,7 +10,7 @@ use Rattle.script_lines.specs.declared.tokens.Tokens.{Tokens}
 
 -- the object, and P2: whether related objects go with it
 abbrev pub SaysDelete : List (List ℕ) → Deletion → Type 0
-SaysDelete (verb ∷ aid ∷ p2 ∷ []) d = (verb ≡ codes "delete") × SpellsAid aid d.aid × SpellsByte p2 d.p2
+SaysDelete (aid ∷ p2 ∷ []) d = SpellsAid aid d.aid × SpellsByte p2 d.p2
 SaysDelete _ d = ⊥
 
 -- DELETE (GlobalPlatform Card Specification 2.3.1, 11.2.2)

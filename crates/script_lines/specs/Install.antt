@@ -20,8 +20,8 @@ unfoldable pub SpellsParameters : List ℕ → List ℕ → Type 0
 SpellsParameters word bytes = ((word ≡ codes "-") × (bytes ≡ [])) ⊎ SpellsUpTo 127 word bytes
 
 abbrev pub SaysInstall : List (List ℕ) → Installation → Type 0
-SaysInstall (verb ∷ p1 ∷ file ∷ module' ∷ aid ∷ privileges ∷ parameters ∷ []) i =
-    (verb ≡ codes "install") × SpellsByte p1 (install_p1 i.selectable)
+SaysInstall (p1 ∷ file ∷ module' ∷ aid ∷ privileges ∷ parameters ∷ []) i =
+    SpellsByte p1 (install_p1 i.selectable)
     × SpellsAid file i.file × SpellsAid module' i.module × SpellsAid aid i.aid
     × SpellsPrivileges privileges i.privileges.items × SpellsParameters parameters i.parameters.items
 SaysInstall _ i = ⊥

@@ -14,7 +14,6 @@ pub mod Mill
 pub mod Open
 pub mod PutKey
 pub mod Quiet
-pub mod Raw
 pub mod Words
 pub mod Round
 pub mod Select

@@ -1,5 +1,5 @@
 -- `life P1 P2 [AID]` is SET STATUS (GlobalPlatform Card Specification 2.3.1, 11.10).
-use Rattle.std.specs.Prelude.{◌≡◌, ℕ, List, [], ◌∷◌, codes, Option, Some, None}
+use Rattle.std.specs.Prelude.{ℕ, List, [], ◌∷◌, Option, Some, None}
 use Rattle.script_lines.specs.Words.{SpellsAid, SpellsByte}
 use Rattle.script_lines.specs.declared.life.LifeChange.{LifeChange}
 use Rattle.apdu_core.specs.Apdu.{Apdu}
@@ -13,7 +13,7 @@ MayName _ _ = ⊥
 
 -- P1, P2 and the object
 abbrev pub SaysLife : List (List ℕ) → LifeChange → Type 0
-SaysLife (verb ∷ p1 ∷ p2 ∷ aid) l = (verb ≡ codes "life") × SpellsByte p1 l.p1 × SpellsByte p2 l.p2 × MayName aid l.aid
+SaysLife (p1 ∷ p2 ∷ aid) l = SpellsByte p1 l.p1 × SpellsByte p2 l.p2 × MayName aid l.aid
 SaysLife _ l = ⊥
 
 abbrev pub aid_or_none : Option (List ℕ) → List ℕ

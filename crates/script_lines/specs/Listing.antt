@@ -14,9 +14,9 @@ MayBegin (word ∷ []) bytes = SpellsUpTo 16 word bytes
 MayBegin _ bytes = ⊥
 
 -- P1, and what the AIDs begin with
-abbrev pub SaysListing : List ℕ → List (List ℕ) → Listing → Type 0
-SaysListing wanted (verb ∷ p1 ∷ aid) l = (verb ≡ wanted) × SpellsByte p1 l.p1 × MayBegin aid l.prefix.items
-SaysListing wanted _ l = ⊥
+abbrev pub SaysListing : List (List ℕ) → Listing → Type 0
+SaysListing (p1 ∷ aid) l = SpellsByte p1 l.p1 × MayBegin aid l.prefix.items
+SaysListing _ l = ⊥
 
 -- GET STATUS, with P2 02 for the first objects and 03 for the next ones (GlobalPlatform Card Specification 2.3.1, 11.4.2)
 abbrev pub listing_command : ℕ → Listing → Apdu

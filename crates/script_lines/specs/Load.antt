@@ -1,7 +1,7 @@
 -- `load FILE DOMAIN HASH HEX` and `load FILE DOMAIN HASH fill N BB` load an Executable Load File (GlobalPlatform Card
 -- Specification 2.3.1, 11.5.2.3.1, 11.6).
 use Rattle.std.specs.Prelude.{◌≡◌, ◌≤◌, ℕ, zero, suc, ◌+◌, ◌==◌, drop, take, List, [], ◌∷◌, codes, decimal, Option, Some, None, replicate, if◌then◌else◌, length, Bool, nat_lt, ◌/◌, ◌%◌, ◌++◌}
-use Rattle.script_lines.specs.Words.{SpellsAid, SpellsByte, SpellsUpTo}
+use Rattle.script_lines.specs.Words.{SaysBytes, SpellsAid, SpellsByte}
 use Rattle.script_lines.specs.declared.load_file.HashFunction.{HashFunction}
 use Rattle.script_lines.specs.declared.load_file.HashFunction.TheVariants.{Sha1, Sha256}
 use Rattle.script_lines.specs.declared.load_file.Content.{Content}
@@ -31,13 +31,13 @@ SpellsCount word count = (word ≡ decimal count) × (1 ≤ count) × (count ≤
 
 -- the bytes themselves, or how many bytes of which value
 abbrev pub SaysContent : List (List ℕ) → Content → Type 0
-SaysContent (bytes ∷ []) (Written b) = SpellsUpTo 258 bytes b.items
+SaysContent words (Written bytes) = SaysBytes words bytes
 SaysContent (fill ∷ count ∷ byte ∷ []) (Filled f) = (fill ≡ codes "fill") × SpellsCount count f.count × SpellsByte byte f.byte
-SaysContent _ _ = ⊥
+SaysContent _ (Filled f) = ⊥
 
 abbrev pub SaysLoad : List (List ℕ) → LoadFile → Type 0
-SaysLoad (verb ∷ file ∷ domain ∷ hash ∷ content) l =
-    (verb ≡ codes "load") × SpellsAid file l.file × SpellsDomain domain l.domain × (hash ≡ hash_word l.hash) × SaysContent content l.content
+SaysLoad (file ∷ domain ∷ hash ∷ content) l =
+    SpellsAid file l.file × SpellsDomain domain l.domain × (hash ≡ hash_word l.hash) × SaysContent content l.content
 SaysLoad _ l = ⊥
 
 abbrev pub content_bytes : Content → List ℕ

@@ -1,5 +1,5 @@
 -- `putkey OLD NEW KEY [KEY KEY]` is PUT KEY (GlobalPlatform Card Specification 2.3.1, 11.8; Amendment D, 7.2).
-use Rattle.std.specs.Prelude.{◌≡◌, ℕ, List, [], ◌∷◌, codes, length, ◌++◌, ◌-◌, replicate}
+use Rattle.std.specs.Prelude.{ℕ, List, [], ◌∷◌, length, ◌++◌, ◌-◌, replicate}
 use Rattle.script_lines.specs.Keys.{SpellTrio}
 use Rattle.script_lines.specs.Words.{SpellsByte, SpellsSome}
 use Rattle.script_lines.specs.declared.keys.OfSize.{OfSize}
@@ -30,7 +30,7 @@ SpellSized words (Aes256 keys) = SpellNewKeys 32 words keys
 
 -- the key version number that is replaced, the new one, and the keys
 abbrev pub SaysPutKey : List (List ℕ) → Putting → Type 0
-SaysPutKey (verb ∷ old ∷ new ∷ keys) p = (verb ≡ codes "putkey") × SpellsByte old p.replaced × SpellsByte new p.version × SpellSized keys p.keys
+SaysPutKey (old ∷ new ∷ keys) p = SpellsByte old p.replaced × SpellsByte new p.version × SpellSized keys p.keys
 SaysPutKey _ p = ⊥
 
 -- the keys, of one length

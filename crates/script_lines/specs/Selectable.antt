@@ -1,5 +1,5 @@
 -- `selectable AID` is INSTALL for make selectable (GlobalPlatform Card Specification 2.3.1, 11.5.2.3.3).
-use Rattle.std.specs.Prelude.{◌≡◌, ℕ, List, [], ◌∷◌, codes}
+use Rattle.std.specs.Prelude.{ℕ, List, [], ◌∷◌}
 use Rattle.script_lines.specs.Words.{SpellsAid}
 use Rattle.apdu_core.specs.Apdu.{Apdu}
 use Rattle.script_lines.specs.Tokens.{install_command}
@@ -7,7 +7,7 @@ use Rattle.script_lines.specs.declared.tokens.Tokens.{Tokens}
 
 -- the application
 abbrev pub SaysSelectable : List (List ℕ) → List ℕ → Type 0
-SaysSelectable (verb ∷ aid ∷ []) a = (verb ≡ codes "selectable") × SpellsAid aid a
+SaysSelectable (aid ∷ []) a = SpellsAid aid a
 SaysSelectable _ a = ⊥
 
 -- INSTALL for make selectable: no privileges and no parameters (GlobalPlatform Card Specification 2.3.1, 11.5.2.3.3)

@@ -16,9 +16,9 @@ IsPlain bytes c = (le : Option ℕ) × Short (apdu_with c le) bytes
 unfoldable pub SpellsPlain : List ℕ → Plain → Type 0
 SpellsPlain word c = (bytes : List ℕ) × (decode_of word ≡ Ok bytes) × IsPlain bytes c
 
-abbrev pub SaysSend : List ℕ → List (List ℕ) → Plain → Type 0
-SaysSend wanted (verb ∷ command ∷ []) c = (verb ≡ wanted) × SpellsPlain command c
-SaysSend wanted _ c = ⊥
+abbrev pub SaysSend : List (List ℕ) → Plain → Type 0
+SaysSend (command ∷ []) c = SpellsPlain command c
+SaysSend _ c = ⊥
 
 -- the command without its Le
 abbrev pub plain_of : Plain → Apdu

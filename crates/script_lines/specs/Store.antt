@@ -1,14 +1,7 @@
 -- `store HEX` is STORE DATA, of one block (GlobalPlatform Card Specification 2.3.1, 11.11).
-use Rattle.std.specs.Prelude.{◌≡◌, ℕ, List, [], ◌∷◌, codes}
-use Rattle.arrayvec.specs.ArrayVec.{ArrayVec}
-use Rattle.script_lines.specs.Words.{SpellsUpTo}
+use Rattle.std.specs.Prelude.{ℕ, List}
 use Rattle.apdu_core.specs.Apdu.{Apdu}
 use Rattle.script_lines.specs.Command.{plain_command}
-
--- the data: 1 to 258 bytes, more than which no line holds
-abbrev pub SaysStore : List (List ℕ) → ArrayVec ℕ → Type 0
-SaysStore (verb ∷ field ∷ []) f = (verb ≡ codes "store") × SpellsUpTo 258 field f.items
-SaysStore _ f = ⊥
 
 -- STORE DATA: the last block, of BER-TLV data (GlobalPlatform Card Specification 2.3.1, 11.11.2)
 abbrev pub storing : List ℕ → Apdu

@@ -1,4 +1,4 @@
--- For the code inside. The first words of lines that send commands.
+-- The first words of lines that send commands.
 use Rattle.std.specs.Prelude.{ℕ, List, codes}
 use Rattle.script_lines.specs.declared.verb.Verb as the_type
 use Rattle.script_lines.specs.declared.verb.Verb.TheVariants.{Select, Raw, Open, Send, Bad, Install, Selectable, Extradite, Load, Delete, PutKey, Store, Life, List as First, More}

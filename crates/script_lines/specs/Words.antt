@@ -3,6 +3,7 @@ use Rattle.std.specs.List.{slice_split}
 use Rattle.std.specs.Option.{option_map_or}
 use Rattle.std.specs.Prelude.{◌≡◌, ℕ, List, [], ◌==◌, false, All, ◌≤◌, ◌∷◌, length, Ok, Option, MatchOption}
 use Rattle.apdu_core.specs.Reply.{status_bytes}
+use Rattle.arrayvec.specs.ArrayVec.{ArrayVec}
 use Rattle.apdu_core.specs.declared.reply.Status.{Status}
 use Rattle.card_types.specs.Aid.{IsAid}
 use Rattle.card_types.specs.Level.{code_of}
@@ -30,6 +31,11 @@ SpellsSome count word bytes = (decode_of word ≡ Ok bytes) × (length bytes ≡
 -- one byte at least, and no more than `most`
 unfoldable pub SpellsUpTo : ℕ → List ℕ → List ℕ → Type 0
 SpellsUpTo most word bytes = (decode_of word ≡ Ok bytes) × (1 ≤ length bytes) × (length bytes ≤ most)
+
+-- one word of 1 to 258 bytes, more than which no line holds
+abbrev pub SaysBytes : List (List ℕ) → ArrayVec ℕ → Type 0
+SaysBytes (word ∷ []) bytes = SpellsUpTo 258 word bytes.items
+SaysBytes _ bytes = ⊥
 
 -- two digits
 unfoldable pub SpellsByte : List ℕ → ℕ → Type 0

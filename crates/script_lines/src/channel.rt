@@ -39,10 +39,9 @@ fn named(word: &[u8]) -> Option<Channel>
 }
 
 /// Reads `channel N`.
-pub fn read(words: Words<'_>) -> Option<Channel>
+pub fn read(mut words: Words<'_>) -> Option<Channel>
     ensures { Reads (SaysChannel (left words.entry)) result }
 {
-    let mut words = words;
     words.fixed(b"channel")?;
     let channel = named(words.last()?)?;
     Some(channel)

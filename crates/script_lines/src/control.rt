@@ -30,19 +30,17 @@ pub enum Control {
 }
 
 // Reads `reset`.
-fn reset(words: Words<'_>) -> Option<()>
+fn reset(mut words: Words<'_>) -> Option<()>
     ensures { Reads (λ _. SaysReset (left words.entry)) result }
 {
-    let mut words = words;
     words.fixed(b"reset")?;
     words.end()
 }
 
 // Reads `want SSSS`.
-fn want(words: Words<'_>) -> Option<Status>
+fn want(mut words: Words<'_>) -> Option<Status>
     ensures { Reads (SaysWant (left words.entry)) result }
 {
-    let mut words = words;
     words.fixed(b"want")?;
     let status = status(words.last()?)?;
     Some(status)

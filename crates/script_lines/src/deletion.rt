@@ -39,13 +39,11 @@ impl Deletion {
     }
 }
 
-/// Reads `delete AID P2`.
+/// Reads `AID P2`, the words after `delete`.
 #[inline(never)]
-pub fn read(words: Words<'_>) -> Option<Deletion>
+pub fn read(mut words: Words<'_>) -> Option<Deletion>
     ensures { Reads (SaysDelete (left words.entry)) result }
 {
-    let mut words = words;
-    words.fixed(b"delete")?;
     let aid = aid(words.take()?)?;
     let p2 = byte(words.last()?)?;
     Some(Deletion { aid, p2 })

@@ -9,13 +9,12 @@ use crate::install::{self, Installation};
 use crate::life::{self, LifeChange};
 use crate::listing::{self, Listing};
 use crate::load_file::{self, LoadFile};
-use crate::octets::{read_raw, read_store};
 use crate::opening::{self, Opening};
 use crate::plain::{self, Plain};
 use crate::put_key::{self, Putting};
 use crate::verb::Verb;
 use crate::words::Words;
-use crate::{select, selectable};
+use crate::{octets, selectable};
 use arrayvec::ArrayVec;
 use card_types::Aid;
 
@@ -69,25 +68,24 @@ pub enum Exchange {
 }
 
 /// Reads a line that sends commands. Its first word tells which form it may have.
-pub fn read(words: Words<'_>) -> Option<Exchange>
+pub fn read(mut words: Words<'_>) -> Option<Exchange>
     ensures { Reads (SaysExchange (left words.entry)) result }
 {
-    let mut rest = words;
-    match Verb::read(rest.take()?)? {
-        Verb::Select => select::read(words).map(Exchange::Select),
-        Verb::Raw => read_raw(words).map(Exchange::Raw),
+    match Verb::read(words.take()?)? {
+        Verb::Select => life::may_name(words).map(Exchange::Select),
+        Verb::Raw => octets::read(words).map(Exchange::Raw),
         Verb::Open => opening::read(words).map(Exchange::Open),
-        Verb::Send => plain::read(b"send", words).map(Exchange::Send),
-        Verb::Bad => plain::read(b"bad", words).map(Exchange::Bad),
+        Verb::Send => plain::read(words).map(Exchange::Send),
+        Verb::Bad => plain::read(words).map(Exchange::Bad),
         Verb::Install => install::read(words).map(Exchange::Install),
         Verb::Selectable => selectable::read(words).map(Exchange::Selectable),
         Verb::Extradite => extradition::read(words).map(Exchange::Extradite),
         Verb::Load => load_file::read(words).map(Exchange::Load),
         Verb::Delete => deletion::read(words).map(Exchange::Delete),
         Verb::PutKey => put_key::read(words).map(Exchange::PutKey),
-        Verb::Store => read_store(words).map(Exchange::Store),
+        Verb::Store => octets::read(words).map(Exchange::Store),
         Verb::Life => life::read(words).map(Exchange::Life),
-        Verb::List => listing::read(b"list", words).map(Exchange::List),
-        Verb::More => listing::read(b"more", words).map(Exchange::More),
+        Verb::List => listing::read(words).map(Exchange::List),
+        Verb::More => listing::read(words).map(Exchange::More),
     }
 }

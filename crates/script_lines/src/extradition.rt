@@ -31,13 +31,11 @@ impl Extradition {
     }
 }
 
-/// Reads `extradite AID DOMAIN`.
+/// Reads `AID DOMAIN`, the words after `extradite`.
 #[inline(never)]
-pub fn read(words: Words<'_>) -> Option<Extradition>
+pub fn read(mut words: Words<'_>) -> Option<Extradition>
     ensures { Reads (SaysExtradite (left words.entry)) result }
 {
-    let mut words = words;
-    words.fixed(b"extradite")?;
     let moved = aid(words.take()?)?;
     let domain = aid(words.last()?)?;
     Some(Extradition { aid: moved, domain })

@@ -102,13 +102,11 @@ fn parameters(word: &[u8]) -> Option<ArrayVec<u8, 127>>
     bytes(word)
 }
 
-/// Reads `install P1 FILE MODULE AID PRIV PARAMS`.
+/// Reads `P1 FILE MODULE AID PRIV PARAMS`, the words after `install`.
 #[inline(never)]
-pub fn read(words: Words<'_>) -> Option<Installation>
+pub fn read(mut words: Words<'_>) -> Option<Installation>
     ensures { Reads (SaysInstall (left words.entry)) result }
 {
-    let mut words = words;
-    words.fixed(b"install")?;
     let selectable = selectable(words.take()?)?;
     let file = aid(words.take()?)?;
     let module = aid(words.take()?)?;

@@ -46,10 +46,9 @@ pub fn key(word: &[u8]) -> Option<Key>
 }
 
 /// Three keys of `N` bytes.
-pub fn three_keys<const N: usize>(words: Words<'_>) -> Option<Trio<N>>
+pub fn three_keys<const N: usize>(mut words: Words<'_>) -> Option<Trio<N>>
     ensures { Reads (SpellTrio N (left words.entry)) result }
 {
-    let mut words = words;
     let enc = array(words.take()?)?;
     let mac = array(words.take()?)?;
     let dek = array(words.last()?)?;
@@ -73,10 +72,9 @@ fn keys(words: Words<'_>) -> Option<Keys>
 }
 
 /// Reads `keys ENC MAC DEK`.
-pub fn read(words: Words<'_>) -> Option<Keys>
+pub fn read(mut words: Words<'_>) -> Option<Keys>
     ensures { Reads (SaysKeys (left words.entry)) result }
 {
-    let mut words = words;
     words.fixed(b"keys")?;
     keys(words)
 }

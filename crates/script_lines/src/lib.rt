@@ -19,9 +19,9 @@
 //! them asks to print the status of the reply alone. A line of spaces, an empty one and one that begins
 //! with `#` say nothing.
 //!
-//! `ScriptLine::read` answers what a line says, or nothing where it is malformed. `specs/` has a file for
-//! each verb: which words the line has, what they spell, and the command that it sends. A text says at
-//! most one line.
+//! `ScriptLine::read` answers what a line says, or nothing where it is malformed. `specs/Control.antt` and
+//! `specs/Exchange.antt` say which verbs there are, and the other files of `specs/` which words follow each,
+//! what they spell, and the command that is sent. A text says at most one line.
 //!
 //! `Mill` gives the lines of a workload: rounds of ten lines each, that ChaCha20 chooses from a seed. Each is
 //! a line of the language, and short enough for `io_edge`.
@@ -50,7 +50,6 @@ mod opening;
 mod plain;
 mod put_key;
 mod round;
-mod select;
 pub mod selectable;
 mod tokens;
 pub mod values;

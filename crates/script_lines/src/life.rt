@@ -38,11 +38,11 @@ impl LifeChange {
     }
 }
 
-// The AID, or none where the words end.
-fn may_name(words: Words<'_>) -> Option<Option<Aid>>
+/// The AID, or none where the words end.
+#[inline(never)]
+pub fn may_name(mut words: Words<'_>) -> Option<Option<Aid>>
     ensures { Reads (MayName (left words.entry)) result }
 {
-    let mut words = words;
     match words.take() {
         None => Some(None),
         Some(word) => {
@@ -53,13 +53,11 @@ fn may_name(words: Words<'_>) -> Option<Option<Aid>>
     }
 }
 
-/// Reads `life P1 P2 [AID]`.
+/// Reads `P1 P2 [AID]`, the words after `life`.
 #[inline(never)]
-pub fn read(words: Words<'_>) -> Option<LifeChange>
+pub fn read(mut words: Words<'_>) -> Option<LifeChange>
     ensures { Reads (SaysLife (left words.entry)) result }
 {
-    let mut words = words;
-    words.fixed(b"life")?;
     let p1 = byte(words.take()?)?;
     let p2 = byte(words.take()?)?;
     let aid = may_name(words)?;

@@ -37,10 +37,9 @@ impl Listing {
 }
 
 // The bytes that each AID begins with, or none where the words end.
-fn may_begin(words: Words<'_>) -> Option<ArrayVec<u8, 16>>
+fn may_begin(mut words: Words<'_>) -> Option<ArrayVec<u8, 16>>
     ensures { Reads (λ prefix. MayBegin (left words.entry) prefix.items) result }
 {
-    let mut words = words;
     match words.take() {
         None => Some(ArrayVec::new()),
         Some(word) => {
@@ -51,13 +50,11 @@ fn may_begin(words: Words<'_>) -> Option<ArrayVec<u8, 16>>
     }
 }
 
-/// Reads `list P1 [AID]` or `more P1 [AID]`.
+/// Reads `P1 [AID]`, the words after `list` or `more`.
 #[inline(never)]
-pub fn read(verb: &[u8], words: Words<'_>) -> Option<Listing>
-    ensures { Reads (SaysListing verb.now (left words.entry)) result }
+pub fn read(mut words: Words<'_>) -> Option<Listing>
+    ensures { Reads (SaysListing (left words.entry)) result }
 {
-    let mut words = words;
-    words.fixed(verb)?;
     let p1 = byte(words.take()?)?;
     let prefix = may_begin(words)?;
     Some(Listing { p1, prefix })

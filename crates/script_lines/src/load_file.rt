@@ -11,9 +11,10 @@ use crate::block::tag_and_length;
 use crate::content::{Piece, part};
 use crate::install::install;
 use crate::number::count;
+use crate::octets;
 use crate::plain::Plain;
 use crate::tokens::Tokens;
-use crate::values::{aid, byte, bytes};
+use crate::values::{aid, byte};
 use crate::words::Words;
 use arrayvec::ArrayVec;
 use card_types::Aid;
@@ -76,23 +77,13 @@ fn hash(word: &[u8]) -> Option<Option<HashFunction>>
 }
 
 // `fill N BB`
-fn filled(words: Words<'_>) -> Option<Fill>
+fn filled(mut words: Words<'_>) -> Option<Fill>
     ensures { Reads (λ fill. SaysContent (left words.entry) (Content.Filled fill)) result }
 {
-    let mut words = words;
     words.fixed(b"fill")?;
     let count = count(words.take()?)?;
     let byte = byte(words.last()?)?;
     Some(Fill { count, byte })
-}
-
-// `HEX`
-fn written(words: Words<'_>) -> Option<ArrayVec<u8, 258>>
-    ensures { Reads (λ bytes. SaysContent (left words.entry) (Content.Written bytes)) result }
-{
-    let mut words = words;
-    let bytes = bytes(words.last()?)?;
-    Some(bytes)
 }
 
 fn held(words: Words<'_>) -> Option<Content>
@@ -101,19 +92,17 @@ fn held(words: Words<'_>) -> Option<Content>
     if let Some(fill) = filled(words) {
         return Some(Content::Filled(fill));
     }
-    if let Some(bytes) = written(words) {
+    if let Some(bytes) = octets::read(words) {
         return Some(Content::Written(bytes));
     }
     None
 }
 
-/// Reads `load FILE DOMAIN HASH HEX` or `load FILE DOMAIN HASH fill N BB`.
+/// Reads `FILE DOMAIN HASH HEX` or `FILE DOMAIN HASH fill N BB`, the words after `load`.
 #[inline(never)]
-pub fn read(words: Words<'_>) -> Option<LoadFile>
+pub fn read(mut words: Words<'_>) -> Option<LoadFile>
     ensures { Reads (SaysLoad (left words.entry)) result }
 {
-    let mut words = words;
-    words.fixed(b"load")?;
     let file = aid(words.take()?)?;
     let domain = domain(words.take()?)?;
     let hash = hash(words.take()?)?;

@@ -15,13 +15,11 @@ pub struct Opening {
     pub challenge: [u8; 8],
 }
 
-/// Reads `open VV LL CHALLENGE`.
+/// Reads `VV LL CHALLENGE`, the words after `open`.
 #[inline(never)]
-pub fn read(words: Words<'_>) -> Option<Opening>
+pub fn read(mut words: Words<'_>) -> Option<Opening>
     ensures { Reads (SaysOpen (left words.entry)) result }
 {
-    let mut words = words;
-    words.fixed(b"open")?;
     let version = byte(words.take()?)?;
     let level = level(words.take()?)?;
     let challenge = array(words.last()?)?;

@@ -73,12 +73,11 @@ fn spelled(word: &[u8]) -> Option<Plain>
     plain_command(&bytes)
 }
 
-/// Reads `send HEX` or `bad HEX`.
+/// Reads `HEX`, the word after `send` or `bad`.
 #[inline(never)]
-pub fn read(verb: &[u8], words: Words<'_>) -> Option<Plain>
-    ensures { Reads (SaysSend verb.now (left words.entry)) result }
+pub fn read(words: Words<'_>) -> Option<Plain>
+    ensures { Reads (SaysSend (left words.entry)) result }
 {
-    let mut words = words;
-    words.fixed(verb)?;
-    spelled(words.last()?)
+    let command = spelled(words.last()?)?;
+    Some(command)
 }

@@ -34,7 +34,6 @@ pub struct Putting {
 fn one<const N: usize>(words: Words<'_>) -> Option<[u8; N]>
     ensures { Reads (SpellOne N (left words.entry)) result }
 {
-    let mut words = words;
     let key = array(words.last()?)?;
     Some(key)
 }
@@ -67,13 +66,11 @@ fn sized(words: Words<'_>) -> Option<OfSize<NewKeys<16>, NewKeys<24>, NewKeys<32
     None
 }
 
-/// Reads `putkey OLD NEW KEY [KEY KEY]`.
+/// Reads `OLD NEW KEY [KEY KEY]`, the words after `putkey`.
 #[inline(never)]
-pub fn read(words: Words<'_>) -> Option<Putting>
+pub fn read(mut words: Words<'_>) -> Option<Putting>
     ensures { Reads (SaysPutKey (left words.entry)) result }
 {
-    let mut words = words;
-    words.fixed(b"putkey")?;
     let replaced = byte(words.take()?)?;
     let version = byte(words.take()?)?;
     let keys = sized(words)?;

@@ -13,13 +13,11 @@ use crate::words::Words;
 use card_types::Aid;
 use tokens_receipts::five_fields;
 
-/// Reads `selectable AID`.
+/// Reads `AID`, the word after `selectable`.
 #[inline(never)]
 pub fn read(words: Words<'_>) -> Option<Aid>
     ensures { Reads (SaysSelectable (left words.entry)) result }
 {
-    let mut words = words;
-    words.fixed(b"selectable")?;
     let aid = aid(words.last()?)?;
     Some(aid)
 }

@@ -51,30 +51,27 @@ impl Tokens {
 }
 
 // `tokenkey none`
-fn absent(words: Words<'_>) -> Option<()>
+fn absent(mut words: Words<'_>) -> Option<()>
     ensures { Reads (λ _. SaysTokens (left words.entry) Tokens.Absent) result }
 {
-    let mut words = words;
     words.fixed(b"tokenkey")?;
     words.fixed(b"none")?;
     words.end()
 }
 
 // `tokenkey KEY`
-fn made(words: Words<'_>) -> Option<Key>
+fn made(mut words: Words<'_>) -> Option<Key>
     ensures { Reads (λ key. SaysTokens (left words.entry) (Tokens.Made key)) result }
 {
-    let mut words = words;
     words.fixed(b"tokenkey")?;
     let key = key(words.last()?)?;
     Some(key)
 }
 
 // `badtoken KEY`
-fn damaged(words: Words<'_>) -> Option<Key>
+fn damaged(mut words: Words<'_>) -> Option<Key>
     ensures { Reads (λ key. SaysTokens (left words.entry) (Tokens.Damaged key)) result }
 {
-    let mut words = words;
     words.fixed(b"badtoken")?;
     let key = key(words.last()?)?;
     Some(key)

@@ -63,12 +63,11 @@ impl<'a> Words<'a> {
     }
 
     /// The one word that is left.
-    pub fn last(self) -> Option<&'a [u8]>
+    pub fn last(mut self) -> Option<&'a [u8]>
         ensures { MatchOption result ((word : List ℕ) → left self.entry ≡ word ∷ [] → ⊥) (λ word. left self.entry ≡ word.now ∷ []) }
     {
-        let mut words = self;
-        let word = words.take()?;
-        words.end()?;
+        let word = self.take()?;
+        self.end()?;
         Some(word)
     }
 

@@ -3,7 +3,7 @@ use Rattle.std.proofs.Common.{◌≡◌, ◌≤◌, ◌⊎◌, ℕ, List, [], �
 use Rattle.std.proofs.lemmas.List.{length-replicate}
 use Rattle.script_lines.specs.Exchange.{SaysExchange}
 use Rattle.script_lines.specs.Line.{SaysLine, SaysQuietly}
-use Rattle.script_lines.specs.Load.{SaysContent, SaysLoad, SpellsCount, content_bytes}
+use Rattle.script_lines.specs.Load.{SaysContent, SpellsCount, content_bytes}
 use Rattle.script_tool.specs.Play.{FitsBlocks}
 use Rattle.script_lines.specs.Words.{SpellsUpTo, words_of}
 use Rattle.script_lines.specs.declared.line.ScriptLine.{ScriptLine}
@@ -27,12 +27,12 @@ content_fits (a ∷ b ∷ c ∷ []) (Written d) x = absurd x
 content_fits (a ∷ b ∷ c ∷ d ∷ more) (Written e) x = absurd x
 content_fits (a ∷ b ∷ c ∷ d ∷ more) (Filled f) x = absurd x
 
-load_fits : (words : List (List ℕ)) (l : LoadFile) → SaysLoad words l → length (content_bytes l.content) ≤ 60_000
-load_fits (verb ∷ file ∷ domain ∷ hash ∷ content) l x = content_fits content l.content x.4
+load_fits : (words : List (List ℕ)) (l : LoadFile) → SaysExchange words (exchange.Load l) → length (content_bytes l.content) ≤ 60_000
+load_fits (verb ∷ file ∷ domain ∷ hash ∷ content) l x = content_fits content l.content x.1.3
 load_fits [] l x = absurd x
-load_fits (a ∷ []) l x = absurd x
-load_fits (a ∷ b ∷ []) l x = absurd x
-load_fits (a ∷ b ∷ c ∷ []) l x = absurd x
+load_fits (a ∷ []) l x = absurd x.1
+load_fits (a ∷ b ∷ []) l x = absurd x.1
+load_fits (a ∷ b ∷ c ∷ []) l x = absurd x.1
 
 exchange_fits : (words : List (List ℕ)) (e : the_type.Exchange) → SaysExchange words e → FitsBlocks e
 exchange_fits words (exchange.Load file) x = load_fits words file x

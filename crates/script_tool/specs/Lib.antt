@@ -33,7 +33,6 @@ pub use Rattle.script_lines.specs.Mill
 pub use Rattle.script_lines.specs.Open
 pub use Rattle.script_lines.specs.PutKey
 pub use Rattle.script_lines.specs.Quiet
-pub use Rattle.script_lines.specs.Raw
 pub use Rattle.script_lines.specs.Round
 pub use Rattle.script_lines.specs.Select
 pub use Rattle.script_lines.specs.Selectable
