@@ -2,9 +2,9 @@
 use Rattle.std.proofs.Common.{◌≡◌, ◌≤◌, ◌*◌, ℕ, List, [], ◌∷◌, length, refl, ap, sym, ◌∙◌, arith, slice_index}
 use Rattle.std.specs.Prelude.{codes}
 use Rattle.script_lines.proofs.OneValue.{one_byte, one_some, some_digits}
-use Rattle.script_lines.specs.Keys.{SaysKeys, SpellKeys, SpellTrio, SpellsKey}
+use Rattle.script_lines.specs.Keys.{SpellKeys, SpellTrio, SpellsKey}
 use Rattle.script_lines.specs.PutKey.{SaysPutKey, SpellNewKeys, SpellSized}
-use Rattle.script_lines.specs.TokenKey.{SaysTokens}
+use Rattle.script_lines.specs.TokenKey.{SaysTokens, token_verb}
 use Rattle.script_lines.specs.declared.keys.OfSize.{OfSize}
 use Rattle.script_lines.specs.declared.keys.OfSize.TheVariants.{Aes128, Aes192, Aes256}
 use Rattle.script_lines.specs.declared.keys.Trio.{Trio}
@@ -70,10 +70,8 @@ keys_digits words (Aes128 keys) x = trio_digits 16 words keys x
 keys_digits words (Aes192 keys) x = trio_digits 24 words keys x
 keys_digits words (Aes256 keys) x = trio_digits 32 words keys x
 
-pub one_keys : (words : List (List ℕ)) (a b : OfSize (Trio 16) (Trio 24) (Trio 32)) → SaysKeys words a → SaysKeys words b → a ≡ b
-one_keys [] a b x y = absurd x
-one_keys (verb ∷ words) a b x y =
-    one_sized (SpellKeys words) (length (first words)) (keys_digits words) (one_trio 16 words) (one_trio 24 words) (one_trio 32 words) a b x.1 y.1
+pub one_keys : (words : List (List ℕ)) (a b : OfSize (Trio 16) (Trio 24) (Trio 32)) → SpellKeys words a → SpellKeys words b → a ≡ b
+one_keys words = one_sized (SpellKeys words) (length (first words)) (keys_digits words) (one_trio 16 words) (one_trio 24 words) (one_trio 32 words)
 
 one_new : (size : ℕ) (words : List (List ℕ)) (a b : NewKeys size) → SpellNewKeys size words a → SpellNewKeys size words b → a ≡ b
 one_new size (word ∷ []) (One a) (One b) x y = ap One (one_some size word a b x y)
@@ -108,21 +106,21 @@ no_key word key none spells =
     let four : length word ≡ 4 = ap (λ l. length l) none in
     omega (arith, digits, least, four)
 
-other_verb : (verb : List ℕ) → verb ≡ codes "tokenkey" → verb ≡ codes "badtoken" → ⊥
-other_verb verb x y =
-    let letters : 116 ≡ 98 = ap (λ l. slice_index l 0) (sym x ∙ y) in
+other_verb : codes "tokenkey" ≡ codes "badtoken" → ⊥
+other_verb same =
+    let letters : 116 ≡ 98 = ap (λ l. slice_index l 0) same in
     absurd (omega (arith, letters))
 
-pub one_tokens : (words : List (List ℕ)) (a b : Tokens) → SaysTokens words a → SaysTokens words b → a ≡ b
-one_tokens (verb ∷ word ∷ []) Absent Absent x y = refl
-one_tokens (verb ∷ word ∷ []) Absent (Made b) x y = absurd (no_key word b x.1 y.1)
-one_tokens (verb ∷ word ∷ []) Absent (Damaged b) x y = absurd (other_verb verb x.0 y.0)
-one_tokens (verb ∷ word ∷ []) (Made a) Absent x y = absurd (no_key word a y.1 x.1)
-one_tokens (verb ∷ word ∷ []) (Made a) (Made b) x y = ap Made (one_key word a b x.1 y.1)
-one_tokens (verb ∷ word ∷ []) (Made a) (Damaged b) x y = absurd (other_verb verb x.0 y.0)
-one_tokens (verb ∷ word ∷ []) (Damaged a) Absent x y = absurd (other_verb verb y.0 x.0)
-one_tokens (verb ∷ word ∷ []) (Damaged a) (Made b) x y = absurd (other_verb verb y.0 x.0)
-one_tokens (verb ∷ word ∷ []) (Damaged a) (Damaged b) x y = ap Damaged (one_key word a b x.1 y.1)
-one_tokens _ Absent b x y = absurd x
-one_tokens _ (Made a) b x y = absurd x
-one_tokens _ (Damaged a) b x y = absurd x
+pub one_tokens : (words : List (List ℕ)) (a b : Tokens) → token_verb a ≡ token_verb b → SaysTokens words a → SaysTokens words b → a ≡ b
+one_tokens (word ∷ []) Absent Absent e x y = refl
+one_tokens (word ∷ []) Absent (Made b) e x y = absurd (no_key word b x y)
+one_tokens (word ∷ []) (Made a) Absent e x y = absurd (no_key word a y x)
+one_tokens (word ∷ []) (Made a) (Made b) e x y = ap Made (one_key word a b x y)
+one_tokens (word ∷ []) (Damaged a) (Damaged b) e x y = ap Damaged (one_key word a b x y)
+one_tokens (word ∷ []) (Damaged a) Absent e x y = absurd (other_verb (sym e))
+one_tokens (word ∷ []) (Damaged a) (Made b) e x y = absurd (other_verb (sym e))
+one_tokens (word ∷ []) Absent (Damaged b) e x y = absurd (other_verb e)
+one_tokens (word ∷ []) (Made a) (Damaged b) e x y = absurd (other_verb e)
+one_tokens _ Absent b e x y = absurd x
+one_tokens _ (Made a) b e x y = absurd x
+one_tokens _ (Damaged a) b e x y = absurd x

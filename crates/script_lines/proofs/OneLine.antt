@@ -3,9 +3,10 @@ use Rattle.std.proofs.Common.{◌≡◌, ℕ, List, [], ◌∷◌, refl, ap, sym
 use Rattle.std.specs.Prelude.{◌==◌, ◌||◌, if◌then◌else◌}
 use Rattle.std.specs.List.{onto_first}
 use Rattle.std.proofs.lemmas.List.Elements.{All-head}
-use Rattle.script_lines.proofs.OneControl.{begins_control, one_control, verb_of_control}
+use Rattle.script_lines.proofs.OneControl.{begins_control, one_control}
 use Rattle.script_lines.proofs.OneKey.{first}
 use Rattle.script_lines.proofs.OneVerb.{begins, one_exchange}
+use Rattle.script_lines.specs.Control as controls
 use Rattle.script_lines.specs.Exchange.{verb_of}
 use Rattle.script_lines.specs.Verb.{word_of}
 use Rattle.script_lines.specs.Line.{IsBlank, IsComment, OneLine, SaysLine, SaysQuietly}
@@ -39,7 +40,7 @@ kind_of (Control control) = 1
 kind_of (Quiet e) = 2
 kind_of (Exchange e) = 3
 
-control_kind : (c : control.Control) → kind (verb_of_control c) ≡ 1
+control_kind : (c : control.Control) → kind (controls.verb_of c) ≡ 1
 unfolding kind sends_nothing
 control_kind Reset = refl
 control_kind (Channel channel) = refl

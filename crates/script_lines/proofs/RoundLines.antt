@@ -8,6 +8,7 @@ use Rattle.card_types.specs.Level.{code_of}
 use Rattle.card_types.specs.declared.level.Level.{Level}
 use Rattle.script_lines.proofs.Split.{one_word}
 use Rattle.script_lines.proofs.Spelled.{aid_bytes, application_digits, challenge_digits, file_digits, level_digits, line_of, number, one_digits, plain, says, spelled_out, stored_digits}
+use Rattle.script_lines.specs.Control.{SaysControl}
 use Rattle.script_lines.specs.Install.{SpellsParameters, SpellsPrivileges}
 use Rattle.script_lines.specs.Load.{SpellsCount, SpellsDomain}
 use Rattle.script_lines.specs.Round.{application_of, challenge_of, digits_of, file_of, lines_of}
@@ -27,7 +28,8 @@ pub record IsChosen (r : Round) : Type 0 where
   pub byte : r.byte < 256
 
 reset_line : IsLine (codes "reset")
-reset_line = ((Control Reset, one_word (codes "reset") (plain (codes "reset") refl)), omega arith)
+reset_line =
+    ((Control Reset, subst (λ l. SaysControl l Reset) (sym (one_word (codes "reset") (plain (codes "reset") refl))) (refl, refl)), omega arith)
 
 open_line : (r : Round) → IsChosen r → IsLine (codes "open 00 " ++ digits_of r.level ++ codes " " ++ challenge_of r)
 unfolding SpellsByte SpellsSome decode_pairs encode_with

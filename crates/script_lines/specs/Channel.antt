@@ -1,5 +1,5 @@
 -- `channel N` chooses a logical channel (GlobalPlatform Card Specification 2.3.1, 11.1.4).
-use Rattle.std.specs.Prelude.{◌≡◌, ◌+◌, ℕ, List, [], ◌∷◌, codes}
+use Rattle.std.specs.Prelude.{◌≡◌, ◌+◌, ℕ, List, [], ◌∷◌}
 use Rattle.script_lines.specs.declared.channel.Channel.{Channel}
 use Rattle.script_lines.specs.declared.channel.Channel.TheVariants.{Basic, First, Second, Third}
 
@@ -11,5 +11,5 @@ number_of Third = 3
 
 -- its number, as one decimal digit
 abbrev pub SaysChannel : List (List ℕ) → Channel → Type 0
-SaysChannel (verb ∷ number ∷ []) c = (verb ≡ codes "channel") × (number ≡ (48 + number_of c) ∷ [])
+SaysChannel (number ∷ []) c = number ≡ (48 + number_of c) ∷ []
 SaysChannel _ c = ⊥

@@ -1,5 +1,5 @@
 -- Keys of AES, as lines write them.
-use Rattle.std.specs.Prelude.{◌≡◌, ℕ, List, [], ◌∷◌, codes}
+use Rattle.std.specs.Prelude.{ℕ, List, [], ◌∷◌}
 use Rattle.script_lines.specs.Words.{SpellsSome}
 use Rattle.script_lines.specs.declared.keys.OfSize.{OfSize}
 use Rattle.script_lines.specs.declared.keys.OfSize.TheVariants.{Aes128, Aes192, Aes256}
@@ -16,12 +16,8 @@ abbrev pub SpellTrio : (size : ℕ) → List (List ℕ) → Trio size → Type 0
 SpellTrio size (enc ∷ mac ∷ dek ∷ []) keys = SpellsSome size enc keys.enc × SpellsSome size mac keys.mac × SpellsSome size dek keys.dek
 SpellTrio size _ keys = ⊥
 
+-- `keys ENC MAC DEK`: the static keys of later sessions, of one length
 abbrev pub SpellKeys : List (List ℕ) → OfSize (Trio 16) (Trio 24) (Trio 32) → Type 0
 SpellKeys words (Aes128 keys) = SpellTrio 16 words keys
 SpellKeys words (Aes192 keys) = SpellTrio 24 words keys
 SpellKeys words (Aes256 keys) = SpellTrio 32 words keys
-
--- `keys ENC MAC DEK`: the static keys of later sessions, of one length
-abbrev pub SaysKeys : List (List ℕ) → OfSize (Trio 16) (Trio 24) (Trio 32) → Type 0
-SaysKeys (verb ∷ keys) k = (verb ≡ codes "keys") × SpellKeys keys k
-SaysKeys _ k = ⊥

@@ -5,9 +5,14 @@ use Rattle.script_lines.specs.Keys.{SpellsKey}
 use Rattle.script_lines.specs.declared.tokens.Tokens.{Tokens}
 use Rattle.script_lines.specs.declared.tokens.Tokens.TheVariants.{Absent, Made, Damaged}
 
+abbrev pub token_verb : Tokens → List ℕ
+token_verb Absent = codes "tokenkey"
+token_verb (Made key) = codes "tokenkey"
+token_verb (Damaged key) = codes "badtoken"
+
 -- none, those under a key, or those with the lowest bit of their last byte turned
 abbrev pub SaysTokens : List (List ℕ) → Tokens → Type 0
-SaysTokens (verb ∷ word ∷ []) Absent = (verb ≡ codes "tokenkey") × (word ≡ codes "none")
-SaysTokens (verb ∷ word ∷ []) (Made key) = (verb ≡ codes "tokenkey") × SpellsKey word key
-SaysTokens (verb ∷ word ∷ []) (Damaged key) = (verb ≡ codes "badtoken") × SpellsKey word key
+SaysTokens (word ∷ []) Absent = word ≡ codes "none"
+SaysTokens (word ∷ []) (Made key) = SpellsKey word key
+SaysTokens (word ∷ []) (Damaged key) = SpellsKey word key
 SaysTokens _ _ = ⊥

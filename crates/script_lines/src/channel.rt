@@ -38,11 +38,10 @@ fn named(word: &[u8]) -> Option<Channel>
     }
 }
 
-/// Reads `channel N`.
-pub fn read(mut words: Words<'_>) -> Option<Channel>
+/// Reads `N`, the word after `channel`.
+pub fn read(words: Words<'_>) -> Option<Channel>
     ensures { Reads (SaysChannel (left words.entry)) result }
 {
-    words.fixed(b"channel")?;
     let channel = named(words.last()?)?;
     Some(channel)
 }

@@ -1,6 +1,6 @@
 //! The lines that send nothing to the card (this profile's own).
 
-ghost use Rattle.script_lines.specs.Control.{SaysControl, SaysReset, SaysWant};
+ghost use Rattle.script_lines.specs.Control.{SaysControl, SaysWant};
 ghost use Rattle.script_lines.specs.Words.{Reads, left};
 
 use crate::channel::{self, Channel};
@@ -29,41 +29,28 @@ pub enum Control {
     Want(Status),
 }
 
-// Reads `reset`.
-fn reset(mut words: Words<'_>) -> Option<()>
-    ensures { Reads (λ _. SaysReset (left words.entry)) result }
-{
-    words.fixed(b"reset")?;
-    words.end()
-}
-
-// Reads `want SSSS`.
-fn want(mut words: Words<'_>) -> Option<Status>
+// `SSSS`
+fn want(words: Words<'_>) -> Option<Status>
     ensures { Reads (SaysWant (left words.entry)) result }
 {
-    words.fixed(b"want")?;
     let status = status(words.last()?)?;
     Some(status)
 }
 
-/// Reads a line that sends nothing.
-pub fn read(words: Words<'_>) -> Option<Control>
+/// Reads a line that sends nothing. Its first word, the verb, tells which form it may have.
+pub fn read(mut words: Words<'_>) -> Option<Control>
     ensures { Reads (SaysControl (left words.entry)) result }
 {
-    if let Some(()) = reset(words) {
-        return Some(Control::Reset);
+    match words.take()? {
+        b"reset" => {
+            words.end()?;
+            Some(Control::Reset)
+        }
+        b"channel" => channel::read(words).map(Control::Channel),
+        b"keys" => keys::read(words).map(Control::Keys),
+        b"tokenkey" => tokens::read(words).map(Control::Tokens),
+        b"badtoken" => tokens::read_damaged(words).map(Control::Tokens),
+        b"want" => want(words).map(Control::Want),
+        _ => None,
     }
-    if let Some(channel) = channel::read(words) {
-        return Some(Control::Channel(channel));
-    }
-    if let Some(keys) = keys::read(words) {
-        return Some(Control::Keys(keys));
-    }
-    if let Some(tokens) = tokens::read(words) {
-        return Some(Control::Tokens(tokens));
-    }
-    if let Some(status) = want(words) {
-        return Some(Control::Want(status));
-    }
-    None
 }

@@ -1,6 +1,6 @@
 //! Keys of AES (this profile's own).
 
-ghost use Rattle.script_lines.specs.Keys.{SaysKeys, SpellKeys, SpellTrio, SpellsKey};
+ghost use Rattle.script_lines.specs.Keys.{SpellKeys, SpellTrio, SpellsKey};
 ghost use Rattle.script_lines.specs.Words.{Reads, left};
 
 use crate::values::array;
@@ -55,8 +55,8 @@ pub fn three_keys<const N: usize>(mut words: Words<'_>) -> Option<Trio<N>>
     Some(Trio { enc, mac, dek })
 }
 
-// Three keys of one length.
-fn keys(words: Words<'_>) -> Option<Keys>
+/// Reads `ENC MAC DEK`, the words after `keys`: three keys of one length.
+pub fn read(words: Words<'_>) -> Option<Keys>
     ensures { Reads (SpellKeys (left words.entry)) result }
 {
     if let Some(keys) = three_keys(words) {
@@ -69,12 +69,4 @@ fn keys(words: Words<'_>) -> Option<Keys>
         return Some(OfSize::Aes256(keys));
     }
     None
-}
-
-/// Reads `keys ENC MAC DEK`.
-pub fn read(mut words: Words<'_>) -> Option<Keys>
-    ensures { Reads (SaysKeys (left words.entry)) result }
-{
-    words.fixed(b"keys")?;
-    keys(words)
 }

@@ -1,9 +1,9 @@
 //! The tokens of later commands (GlobalPlatform Card Specification 2.3.1, 9.2 and C.4).
 
-ghost use Rattle.std.specs.Prelude.{◌≡◌, ◌≤◌, length};
+ghost use Rattle.std.specs.Prelude.{◌≡◌, ◌≤◌, codes, length};
 ghost use Rattle.tokens_receipts.specs.Token as approved;
 ghost use Rattle.script_lines.specs.Words.{Reads, left};
-ghost use Rattle.script_lines.specs.TokenKey.{SaysTokens};
+ghost use Rattle.script_lines.specs.TokenKey.{SaysTokens, token_verb};
 ghost use Rattle.script_lines.specs.Tokens.{key_of, token_made};
 
 use crate::keys::{Key, OfSize, key};
@@ -50,45 +50,22 @@ impl Tokens {
     }
 }
 
-// `tokenkey none`
-fn absent(mut words: Words<'_>) -> Option<()>
-    ensures { Reads (λ _. SaysTokens (left words.entry) Tokens.Absent) result }
-{
-    words.fixed(b"tokenkey")?;
-    words.fixed(b"none")?;
-    words.end()
-}
-
-// `tokenkey KEY`
-fn made(mut words: Words<'_>) -> Option<Key>
-    ensures { Reads (λ key. SaysTokens (left words.entry) (Tokens.Made key)) result }
-{
-    words.fixed(b"tokenkey")?;
-    let key = key(words.last()?)?;
-    Some(key)
-}
-
-// `badtoken KEY`
-fn damaged(mut words: Words<'_>) -> Option<Key>
-    ensures { Reads (λ key. SaysTokens (left words.entry) (Tokens.Damaged key)) result }
-{
-    words.fixed(b"badtoken")?;
-    let key = key(words.last()?)?;
-    Some(key)
-}
-
-/// Reads `tokenkey none`, `tokenkey KEY` or `badtoken KEY`.
+/// Reads `none` or `KEY`, the word after `tokenkey`.
 pub fn read(words: Words<'_>) -> Option<Tokens>
-    ensures { Reads (SaysTokens (left words.entry)) result }
+    ensures { Reads (λ tokens. (token_verb tokens ≡ codes "tokenkey") × SaysTokens (left words.entry) tokens) result }
 {
-    if let Some(()) = absent(words) {
+    let word = words.last()?;
+    if word == b"none".as_slice() {
         return Some(Tokens::Absent);
     }
-    if let Some(key) = made(words) {
-        return Some(Tokens::Made(key));
-    }
-    if let Some(key) = damaged(words) {
-        return Some(Tokens::Damaged(key));
-    }
-    None
+    let key = key(word)?;
+    Some(Tokens::Made(key))
+}
+
+/// Reads `KEY`, the word after `badtoken`.
+pub fn read_damaged(words: Words<'_>) -> Option<Tokens>
+    ensures { Reads (λ tokens. (token_verb tokens ≡ codes "badtoken") × SaysTokens (left words.entry) tokens) result }
+{
+    let key = key(words.last()?)?;
+    Some(Tokens::Damaged(key))
 }
