@@ -72,7 +72,7 @@ pub use listing::Listing;
 pub use load_file::{Content, Fill, HashFunction, LoadFile, install_for_load};
 pub use mill::Mill;
 pub use nothing::says_nothing;
-pub use number::spelled_number;
+pub use number::{short_number, spelled_number};
 pub use opening::Opening;
 pub use plain::Plain;
 pub use put_key::{NewKeys, Putting};

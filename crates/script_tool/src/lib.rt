@@ -51,6 +51,6 @@ pub use player::Player;
 pub use printout::Text;
 pub use script_lines::{
     Installation, Key, Mill, OfSize, Piece, Tokens, install_for_load, key, load_block, part,
-    says_nothing, spelled_number, tag_and_length, values, words,
+    says_nothing, short_number, spelled_number, tag_and_length, values, words,
 };
 pub use word::Word;

@@ -1,19 +1,17 @@
-use Rattle.std.proofs.Common.{arith, sym, ◌∙◌, subst}
-use Rattle.std.proofs.lemmas.Fmt.{IsAscii-decimal, parse-decimal}
-use Rattle.std.proofs.lemmas.Str.{IsUtf8-from_ascii}
-use Rattle.std.specs.Str.{IsAscii}
+use Rattle.std.proofs.Common.{◌≡◌}
 use Rattle.script_lines.proofs.number.spelled_number.Goals as goal
 
-pub returns-in-Ok-parse : goal.returns-in-Ok-parse
-returns-in-Ok-parse c = λ n small digits.
-    let read = parse-decimal 64 n c.in-Ok.text.now c.parse.result small (omega (arith, small)) (c.in-Ok.ensures.cases.0 ∙ digits) c.parse.ensures.value.0 in
-    cc (read, c.in-Ok-parse.is)
+pub returns-in_err-number-clause-digits : goal.returns-in_err-number-clause-digits
+returns-in_err-number-clause-digits c = λ n small digits.
+    absurd (let read = c.parsed.ensures n small digits in cc (read, c.in_err-number.was))
 
-pub returns-in-Err-parse : goal.returns-in-Err-parse
-returns-in-Err-parse c = λ n small digits.
-    let read = parse-decimal 64 n c.in-Ok.text.now c.parse.result small (omega (arith, small)) (c.in-Ok.ensures.cases.0 ∙ digits) c.parse.ensures.value.0 in
-    cc (read, c.in-Err-parse.is)
+pub returns-then-not-are_digits-clause-digits : goal.returns-then-not-are_digits-clause-digits
+returns-then-not-are_digits-clause-digits c = λ n small digits.
+    let read = c.parsed.ensures n small digits in
+    let e : c.in_ok-number.number ≡ n = cc (read, c.in_ok-number.was) in
+    absurd (cc (c.are_digits.ensures.1 (rw e digits), c.if-not-are_digits.true))
 
-pub returns-in-Err : goal.returns-in-Err
-returns-in-Err c = λ n small digits.
-    absurd (c.in-Err.ensures.cases.0 (IsUtf8-from_ascii c.args.word.now (subst IsAscii (sym digits) (IsAscii-decimal n (omega (arith, small))))))
+pub returns-clause-digits : goal.returns-clause-digits
+returns-clause-digits c = λ n small digits.
+    let read = c.parsed.ensures n small digits in
+    cc (read, c.in_ok-number.was)
