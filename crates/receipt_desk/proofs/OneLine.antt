@@ -1,13 +1,11 @@
 -- A text says at most one line.
 use Rattle.std.proofs.Common.{◌≡◌, inl, inr, ℕ, ◌≤◌, List, [], ◌∷◌, refl, ap, sym, ◌∙◌, arith, slice_index}
-use Rattle.std.specs.List.{onto_first}
-use Rattle.std.proofs.lemmas.List.Elements.{All-head}
 use Rattle.std.proofs.lemmas.Nat.{from_be_bytes-to_be_bytes_2}
 use Rattle.hex.proofs.HexLemmas.{decode_of-same}
 use Rattle.std.specs.Int.{from_be_bytes, to_be_bytes, w16}
 use Rattle.script_lines.proofs.OneKey.{first, one_key}
+use Rattle.script_lines.proofs.OneLine.{blank_first, comment_first}
 use Rattle.script_lines.proofs.OneValue.{no_hyphen, one_aid, one_byte, one_up_to, one_vec}
-use Rattle.script_tool.specs.Line.{IsBlank, IsComment}
 use Rattle.script_tool.specs.Words.{SpellsUpTo, words_of}
 use Rattle.script_lines.specs.declared.keys.OfSize.{OfSize}
 use Rattle.arrayvec.specs.ArrayVec.{ArrayVec}
@@ -27,11 +25,11 @@ one_some_or_none most word a b (inr x) (inl y) = absurd (no_hyphen word a.items 
 one_some_or_none most word a b (inr x) (inr y) = one_up_to most word a b x y
 
 one_key_line : (words : List (List ℕ)) (a b : OfSize (List ℕ) (List ℕ) (List ℕ)) → SaysKey words a → SaysKey words b → a ≡ b
-one_key_line (verb ∷ word ∷ []) a b x y = one_key word a b x.1 y.1
+one_key_line (word ∷ []) a b x y = one_key word a b x y
 one_key_line _ a b x y = absurd x
 
 one_unique : (words : List (List ℕ)) (a b : ArrayVec ℕ) → SaysUnique words a.items → SaysUnique words b.items → a ≡ b
-one_unique (verb ∷ word ∷ []) a b x y = one_some_or_none 20 word a b x.1 y.1
+one_unique (word ∷ []) a b x y = one_some_or_none 20 word a b x y
 one_unique _ a b x y = absurd x
 
 one_number : (word : List ℕ) (a b : ℕ) → SpellsNumber word a → SpellsNumber word b → a ≡ b
@@ -41,14 +39,14 @@ one_number word a b x y =
     ∙ from_be_bytes-to_be_bytes_2 b y.1
 
 one_from : (words : List (List ℕ)) (a b : ℕ) → SaysFrom words a → SaysFrom words b → a ≡ b
-one_from (verb ∷ word ∷ []) a b x y = one_number word a b x.1 y.1
+one_from (word ∷ []) a b x y = one_number word a b x y
 one_from _ a b x y = absurd x
 
 one_sign : (words : List (List ℕ)) (a b : Signing) → SaysSign words a → SaysSign words b → a ≡ b
-one_sign (verb ∷ p1 ∷ p2 ∷ word ∷ []) a b x y =
-    let p = one_byte p1 a.p1 b.p1 x.1 y.1 in
-    let q = one_byte p2 a.p2 b.p2 x.2 y.2 in
-    let before = one_some_or_none 255 word a.before b.before x.3 y.3 in
+one_sign (p1 ∷ p2 ∷ word ∷ []) a b x y =
+    let p = one_byte p1 a.p1 b.p1 x.0 y.0 in
+    let q = one_byte p2 a.p2 b.p2 x.1 y.1 in
+    let before = one_some_or_none 255 word a.before b.before x.2 y.2 in
     (λ i. record { p1 = p i; p2 = q i; before = before i })
 one_sign _ a b x y = absurd x
 
@@ -72,16 +70,16 @@ one_aids (u ∷ v ∷ w ∷ []) (Three a b c) (Two d e) x y = absurd y
 one_aids _ a b x y = absurd x
 
 one_receipt : (words : List (List ℕ)) (a b : Receipted) → SaysReceipt words a → SaysReceipt words b → a ≡ b
-one_receipt (verb ∷ word ∷ aids) a b x y =
-    let reply = one_up_to 48 word a.reply b.reply x.1 y.1 in
-    let named = one_aids aids a.aids b.aids x.2 y.2 in
+one_receipt (word ∷ aids) a b x y =
+    let reply = one_up_to 48 word a.reply b.reply x.0 y.0 in
+    let named = one_aids aids a.aids b.aids x.1 y.1 in
     (λ i. record { reply = reply i; aids = named i })
 one_receipt _ a b x y = absurd x
 
--- the letter that a line begins with, which is below the letters where it says nothing
-letter : List (List ℕ) → ℕ
-letter words = slice_index (first words) 0
+letter : List ℕ → ℕ
+letter word = slice_index word 0
 
+-- the letter that a line begins with, which is below the letters where it says nothing
 abbrev Begins : DeskLine → ℕ → Type 0
 Begins Nothing l = l ≤ 35
 Begins (Key key) l = l ≡ 107
@@ -90,53 +88,44 @@ Begins (From number) l = l ≡ 102
 Begins (Sign s) l = l ≡ 115
 Begins (Receipt r) l = l ≡ 114
 
-words_begin : (words : List (List ℕ)) (line : DeskLine) → SaysWords words line → Begins line (letter words)
+words_begin : (words : List (List ℕ)) (line : DeskLine) → SaysWords words line → Begins line (letter (first words))
 unfolding letter
 words_begin words Nothing says = absurd says
-words_begin (verb ∷ word ∷ []) (Key key) says = ap (λ (l : List ℕ). slice_index l 0) says.0
-words_begin _ (Key key) says = absurd says
-words_begin (verb ∷ word ∷ []) (Unique bytes) says = ap (λ (l : List ℕ). slice_index l 0) says.0
-words_begin _ (Unique bytes) says = absurd says
-words_begin (verb ∷ word ∷ []) (From number) says = ap (λ (l : List ℕ). slice_index l 0) says.0
-words_begin _ (From number) says = absurd says
-words_begin (verb ∷ p1 ∷ p2 ∷ word ∷ []) (Sign s) says = ap (λ (l : List ℕ). slice_index l 0) says.0
-words_begin _ (Sign s) says = absurd says
-words_begin (verb ∷ word ∷ aids) (Receipt r) says = ap (λ (l : List ℕ). slice_index l 0) says.0
-words_begin _ (Receipt r) says = absurd says
+words_begin (verb ∷ words) (Key key) says = ap letter says.0
+words_begin (verb ∷ words) (Unique bytes) says = ap letter says.0
+words_begin (verb ∷ words) (From number) says = ap letter says.0
+words_begin (verb ∷ words) (Sign s) says = ap letter says.0
+words_begin (verb ∷ words) (Receipt r) says = ap letter says.0
+words_begin [] line says = absurd says
 
-blank_letter : (text : List ℕ) → IsBlank text → letter (words_of text) ≡ 0
-unfolding letter words_of
-blank_letter [] blank = refl
-blank_letter (byte ∷ rest) blank =
-    let space = All-head (λ b. b ≡ 32) byte rest blank in
-    ap (λ (b : ℕ). letter (words_of (b ∷ rest))) space
-
-hash_letter : (words : List (List ℕ)) → letter (onto_first 35 words) ≡ 35
+nothing_begins : (text : List ℕ) → SaysDesk text Nothing → letter (first (words_of text)) ≤ 35
 unfolding letter
-hash_letter [] = refl
-hash_letter (word ∷ words) = refl
+nothing_begins text (inl blank) = let l : letter (first (words_of text)) ≡ 0 = ap letter (blank_first text blank) in omega (arith, l)
+nothing_begins text (inr comment) = let l : letter (first (words_of text)) ≡ 35 = ap letter (comment_first text comment).1 in omega (arith, l)
 
-comment_letter : (text : List ℕ) → IsComment text → letter (words_of text) ≡ 35
-unfolding words_of
-comment_letter text comment = ap (λ (t : List ℕ). letter (words_of t)) comment.1 ∙ hash_letter (words_of comment.0)
+one_words : (words : List (List ℕ)) (a b : DeskLine) → SaysWords words a → SaysWords words b → a ≡ b
+one_words (verb ∷ words) (Key a) (Key b) x y = ap Key (one_key_line words a b x.1 y.1)
+one_words (verb ∷ words) (Unique a) (Unique b) x y = ap Unique (one_unique words a b x.1 y.1)
+one_words (verb ∷ words) (From a) (From b) x y = ap From (one_from words a b x.1 y.1)
+one_words (verb ∷ words) (Sign a) (Sign b) x y = ap Sign (one_sign words a b x.1 y.1)
+one_words (verb ∷ words) (Receipt a) (Receipt b) x y = ap Receipt (one_receipt words a b x.1 y.1)
+one_words words Nothing b x y = absurd x
+one_words (verb ∷ words) a b x y =
+    let p = words_begin (verb ∷ words) a x in
+    let q = words_begin (verb ∷ words) b y in
+    absurd (omega (arith, p, q))
+one_words [] a b x y = absurd x
 
-text_begins : (text : List ℕ) (line : DeskLine) → SaysDesk text line → Begins line (letter (words_of text))
-text_begins text Nothing (inl blank) = let l = blank_letter text blank in omega (arith, l)
-text_begins text Nothing (inr comment) = let l = comment_letter text comment in omega (arith, l)
-text_begins text (Key key) says = words_begin (words_of text) (Key key) says
-text_begins text (Unique bytes) says = words_begin (words_of text) (Unique bytes) says
-text_begins text (From number) says = words_begin (words_of text) (From number) says
-text_begins text (Sign s) says = words_begin (words_of text) (Sign s) says
-text_begins text (Receipt r) says = words_begin (words_of text) (Receipt r) says
+-- a line that says nothing says no words
+no_words : (text : List ℕ) (line : DeskLine) → SaysDesk text Nothing → SaysWords (words_of text) line → ⊥
+no_words text Nothing nothing says = absurd says
+no_words text line nothing says =
+    let p = nothing_begins text nothing in
+    let q = words_begin (words_of text) line says in
+    omega (arith, p, q)
 
 pub one_desk_line : OneDeskLine
 one_desk_line text Nothing Nothing x y = refl
-one_desk_line text (Key a) (Key b) x y = ap Key (one_key_line (words_of text) a b x y)
-one_desk_line text (Unique a) (Unique b) x y = ap Unique (one_unique (words_of text) a b x y)
-one_desk_line text (From a) (From b) x y = ap From (one_from (words_of text) a b x y)
-one_desk_line text (Sign a) (Sign b) x y = ap Sign (one_sign (words_of text) a b x y)
-one_desk_line text (Receipt a) (Receipt b) x y = ap Receipt (one_receipt (words_of text) a b x y)
-one_desk_line text a b x y =
-    let p = text_begins text a x in
-    let q = text_begins text b y in
-    absurd (omega (arith, p, q))
+one_desk_line text Nothing b x y = absurd (no_words text b x y)
+one_desk_line text a Nothing x y = absurd (no_words text a y x)
+one_desk_line text a b x y = one_words (words_of text) a b x y

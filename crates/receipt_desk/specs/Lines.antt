@@ -21,25 +21,33 @@ SpellsNumber word number = (decode_of word ≡ Ok (to_be_bytes w16 number)) × (
 unfoldable pub SpellsSomeOrNone : ℕ → List ℕ → List ℕ → Type 0
 SpellsSomeOrNone most word bytes = ((word ≡ codes "-") × (bytes ≡ [])) ⊎ SpellsUpTo most word bytes
 
+-- the verb of each line that says something
+abbrev pub verb_of : DeskLine → List ℕ
+verb_of Nothing = []
+verb_of (Key key) = codes "key"
+verb_of (Unique bytes) = codes "unique"
+verb_of (From number) = codes "from"
+verb_of (Sign s) = codes "sign"
+verb_of (Receipt r) = codes "receipt"
+
 -- `key HEX`: the key of later tokens and receipts, of AES-128, AES-192 or AES-256
 abbrev pub SaysKey : List (List ℕ) → OfSize (List ℕ) (List ℕ) (List ℕ) → Type 0
-SaysKey (verb ∷ word ∷ []) key = (verb ≡ codes "key") × SpellsKey word key
+SaysKey (word ∷ []) key = SpellsKey word key
 SaysKey _ key = ⊥
 
 -- `unique HEX` or `unique -`: the unique data of the card
 abbrev pub SaysUnique : List (List ℕ) → List ℕ → Type 0
-SaysUnique (verb ∷ word ∷ []) bytes = (verb ≡ codes "unique") × SpellsSomeOrNone 20 word bytes
+SaysUnique (word ∷ []) bytes = SpellsSomeOrNone 20 word bytes
 SaysUnique _ bytes = ⊥
 
 -- `from NNNN`: the number of the last receipt
 abbrev pub SaysFrom : List (List ℕ) → ℕ → Type 0
-SaysFrom (verb ∷ word ∷ []) number = (verb ≡ codes "from") × SpellsNumber word number
+SaysFrom (word ∷ []) number = SpellsNumber word number
 SaysFrom _ number = ⊥
 
 -- `sign P1 P2 HEX` or `sign P1 P2 -`: a command to approve
 abbrev pub SaysSign : List (List ℕ) → Signing → Type 0
-SaysSign (verb ∷ p1 ∷ p2 ∷ word ∷ []) s =
-    (verb ≡ codes "sign") × SpellsByte p1 s.p1 × SpellsByte p2 s.p2 × SpellsSomeOrNone 255 word s.before.items
+SaysSign (p1 ∷ p2 ∷ word ∷ []) s = SpellsByte p1 s.p1 × SpellsByte p2 s.p2 × SpellsSomeOrNone 255 word s.before.items
 SaysSign _ s = ⊥
 
 -- one AID, two or three
@@ -51,17 +59,23 @@ SpellAids _ aids = ⊥
 
 -- `receipt HEX AID [AID [AID]]`: the data field of a reply, and what its command was about
 abbrev pub SaysReceipt : List (List ℕ) → Receipted → Type 0
-SaysReceipt (verb ∷ word ∷ aids) r = (verb ≡ codes "receipt") × SpellsUpTo 48 word r.reply.items × SpellAids aids r.aids
+SaysReceipt (word ∷ aids) r = SpellsUpTo 48 word r.reply.items × SpellAids aids r.aids
 SaysReceipt _ r = ⊥
+
+-- what the words after the verb say
+abbrev pub SayAfterVerb : List (List ℕ) → DeskLine → Type 0
+SayAfterVerb words Nothing = ⊥
+SayAfterVerb words (Key key) = SaysKey words key
+SayAfterVerb words (Unique bytes) = SaysUnique words bytes.items
+SayAfterVerb words (From number) = SaysFrom words number
+SayAfterVerb words (Sign s) = SaysSign words s
+SayAfterVerb words (Receipt r) = SaysReceipt words r
 
 -- what the words of a line say that says something
 abbrev pub SaysWords : List (List ℕ) → DeskLine → Type 0
 SaysWords words Nothing = ⊥
-SaysWords words (Key key) = SaysKey words key
-SaysWords words (Unique bytes) = SaysUnique words bytes.items
-SaysWords words (From number) = SaysFrom words number
-SaysWords words (Sign s) = SaysSign words s
-SaysWords words (Receipt r) = SaysReceipt words r
+SaysWords (verb ∷ words) line = (verb ≡ verb_of line) × SayAfterVerb words line
+SaysWords [] line = ⊥
 
 -- a text is blank or a comment, or its words say something
 abbrev pub SaysDesk : List ℕ → DeskLine → Type 0

@@ -23,19 +23,17 @@ fn one(words: Words<'_>) -> Option<Aid>
     Some(only)
 }
 
-fn two(words: Words<'_>) -> Option<(Aid, Aid)>
+fn two(mut words: Words<'_>) -> Option<(Aid, Aid)>
     ensures { Reads (λ aids. SpellAids (left words.entry) (Aids.Two aids.0 aids.1)) result }
 {
-    let mut words = words;
     let first = aid(words.take()?)?;
     let second = aid(words.last()?)?;
     Some((first, second))
 }
 
-fn three(words: Words<'_>) -> Option<(Aid, Aid, Aid)>
+fn three(mut words: Words<'_>) -> Option<(Aid, Aid, Aid)>
     ensures { Reads (λ aids. SpellAids (left words.entry) (Aids.Three aids.0 aids.1 aids.2)) result }
 {
-    let mut words = words;
     let first = aid(words.take()?)?;
     let second = aid(words.take()?)?;
     let third = aid(words.last()?)?;

@@ -41,56 +41,48 @@ fn number(word: &[u8]) -> Option<u16>
     Some(u16::from_be_bytes(bytes))
 }
 
-// `key HEX`
+// The key of `key HEX`.
 fn read_key(words: Words<'_>) -> Option<Key>
     ensures { Reads (SaysKey (left words.entry)) result }
 {
-    let mut words = words;
-    words.fixed(b"key")?;
     let key = key(words.last()?)?;
     Some(key)
 }
 
-// `unique HEX` or `unique -`
+// The bytes of `unique HEX` or `unique -`.
 fn read_unique(words: Words<'_>) -> Option<ArrayVec<u8, 20>>
     ensures { Reads (λ bytes. SaysUnique (left words.entry) bytes.items) result }
 {
-    let mut words = words;
-    words.fixed(b"unique")?;
     let bytes = bytes_or_none(words.last()?)?;
     Some(bytes)
 }
 
-// `from NNNN`
+// The number of `from NNNN`.
 fn read_from(words: Words<'_>) -> Option<u16>
     ensures { Reads (SaysFrom (left words.entry)) result }
 {
-    let mut words = words;
-    words.fixed(b"from")?;
     let number = number(words.last()?)?;
     Some(number)
 }
 
-// What the words of a line say that says something.
-fn read_words(words: Words<'_>) -> Option<DeskLine>
+// What the words of a line say that says something. The first one, the verb, tells which form it may have.
+fn read_words(mut words: Words<'_>) -> Option<DeskLine>
     ensures { Reads (SaysWords (left words.entry)) result }
 {
-    if let Some(receipted) = receipted::read(words) {
-        return Some(DeskLine::Receipt(receipted));
+    let verb = words.take()?;
+    if verb == b"receipt".as_slice() {
+        receipted::read(words).map(DeskLine::Receipt)
+    } else if verb == b"key".as_slice() {
+        read_key(words).map(DeskLine::Key)
+    } else if verb == b"unique".as_slice() {
+        read_unique(words).map(DeskLine::Unique)
+    } else if verb == b"from".as_slice() {
+        read_from(words).map(DeskLine::From)
+    } else if verb == b"sign".as_slice() {
+        signing::read(words).map(DeskLine::Sign)
+    } else {
+        None
     }
-    if let Some(key) = read_key(words) {
-        return Some(DeskLine::Key(key));
-    }
-    if let Some(bytes) = read_unique(words) {
-        return Some(DeskLine::Unique(bytes));
-    }
-    if let Some(number) = read_from(words) {
-        return Some(DeskLine::From(number));
-    }
-    if let Some(signing) = signing::read(words) {
-        return Some(DeskLine::Sign(signing));
-    }
-    None
 }
 
 impl DeskLine {

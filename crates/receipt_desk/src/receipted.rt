@@ -15,12 +15,10 @@ pub struct Receipted {
     pub aids: Aids,
 }
 
-/// Reads `receipt HEX AID [AID [AID]]`.
-pub fn read(words: Words<'_>) -> Option<Receipted>
+/// Reads `HEX AID [AID [AID]]`, the words after `receipt`.
+pub fn read(mut words: Words<'_>) -> Option<Receipted>
     ensures { Reads (SaysReceipt (left words.entry)) result }
 {
-    let mut words = words;
-    words.fixed(b"receipt")?;
     let reply = bytes(words.take()?)?;
     let aids = aids::read(words)?;
     Some(Receipted { reply, aids })

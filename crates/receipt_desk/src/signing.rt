@@ -26,12 +26,10 @@ pub fn bytes_or_none<const N: usize>(word: &[u8]) -> Option<ArrayVec<u8, N>>
     bytes(word)
 }
 
-/// Reads `sign P1 P2 HEX` or `sign P1 P2 -`.
-pub fn read(words: Words<'_>) -> Option<Signing>
+/// Reads `P1 P2 HEX` or `P1 P2 -`, the words after `sign`.
+pub fn read(mut words: Words<'_>) -> Option<Signing>
     ensures { Reads (SaysSign (left words.entry)) result }
 {
-    let mut words = words;
-    words.fixed(b"sign")?;
     let p1 = byte(words.take()?)?;
     let p2 = byte(words.take()?)?;
     let before = bytes_or_none(words.last()?)?;

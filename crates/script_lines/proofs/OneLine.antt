@@ -73,29 +73,30 @@ unfolding kind
 quiet_kind [] e x = absurd x
 quiet_kind (mark ∷ words) e x = ap kind x.0
 
-empty_kind : kind [] ≡ 0
-unfolding kind
-empty_kind = refl
-
-blank_kind : (text : List ℕ) → IsBlank text → kind (first (words_of text)) ≡ 0
+pub blank_first : (text : List ℕ) → IsBlank text → first (words_of text) ≡ []
 unfolding words_of
-blank_kind [] blank = empty_kind
-blank_kind (byte ∷ rest) blank =
+blank_first [] blank = refl
+blank_first (byte ∷ rest) blank =
     let space = All-head (λ b. b ≡ 32) byte rest blank in
-    ap (λ b. kind (first (words_of (b ∷ rest)))) space ∙ empty_kind
+    ap (λ b. first (words_of (b ∷ rest))) space
 
-hash_kind : (words : List (List ℕ)) → kind (first (onto_first 35 words)) ≡ 0
-unfolding kind
-hash_kind [] = refl
-hash_kind (word ∷ words) = refl
+hash_first : (words : List (List ℕ)) → (rest : List ℕ) × (first (onto_first 35 words) ≡ 35 ∷ rest)
+hash_first [] = ([], refl)
+hash_first (word ∷ words) = (word, refl)
 
-comment_kind : (text : List ℕ) → IsComment text → kind (first (words_of text)) ≡ 0
+pub comment_first : (text : List ℕ) → IsComment text → (rest : List ℕ) × (first (words_of text) ≡ 35 ∷ rest)
 unfolding words_of
-comment_kind text comment = ap (λ t. kind (first (words_of t))) comment.1 ∙ hash_kind (words_of comment.0)
+comment_first text comment =
+    let hash = hash_first (words_of comment.0) in
+    (hash.0, ap (λ t. first (words_of t)) comment.1 ∙ hash.1)
+
+no_kind : (kind [] ≡ 0) × ((rest : List ℕ) → kind (35 ∷ rest) ≡ 0)
+unfolding kind
+no_kind = (refl, λ rest. refl)
 
 line_kind : (text : List ℕ) (line : ScriptLine) → SaysLine text line → kind (first (words_of text)) ≡ kind_of line
-line_kind text Nothing (inl blank) = blank_kind text blank
-line_kind text Nothing (inr comment) = comment_kind text comment
+line_kind text Nothing (inl blank) = ap kind (blank_first text blank) ∙ no_kind.0
+line_kind text Nothing (inr comment) = (let hash = comment_first text comment in ap kind hash.1 ∙ no_kind.1 hash.0)
 line_kind text (Control c) x = ap kind (begins_control (words_of text) c x) ∙ control_kind c
 line_kind text (Exchange e) x = ap kind (begins (words_of text) e x) ∙ exchange_kind e
 line_kind text (Quiet e) x = quiet_kind (words_of text) e x
