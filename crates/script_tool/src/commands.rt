@@ -26,8 +26,79 @@ use crate::word::Word;
 use apdu_core::Command;
 use card_types::Aid;
 use script_lines::{
-    Deletion, Extradition, Installation, LifeChange, Listing, Plain, Putting, selectable,
+    Deletion, Extradition, Installation, LifeChange, Listing, Plain, Putting, Tokens, selectable,
 };
+
+/// What a host makes a plain command of, with its tokens.
+pub trait ToCommand {
+    ghost use Rattle.script_lines.specs.declared.tokens.Tokens.{Tokens};
+
+    ghost apdu: { Tokens → Self → Apdu };
+
+    fn to_command(&self, tokens: &Tokens) -> Plain
+        ensures { plain_of result ≡ apdu tokens.now self.now };
+}
+
+impl ToCommand for Installation {
+    ghost apdu = { installing };
+
+    fn to_command(&self, tokens: &Tokens) -> Plain {
+        self.command(tokens)
+    }
+}
+
+impl ToCommand for Extradition {
+    ghost apdu = { extraditing };
+
+    fn to_command(&self, tokens: &Tokens) -> Plain {
+        self.command(tokens)
+    }
+}
+
+impl ToCommand for Deletion {
+    ghost apdu = { deleting };
+
+    fn to_command(&self, tokens: &Tokens) -> Plain {
+        self.command(tokens)
+    }
+}
+
+impl ToCommand for LifeChange {
+    ghost apdu = { λ _ change. changing_life change };
+
+    fn to_command(&self, _: &Tokens) -> Plain {
+        self.command()
+    }
+}
+
+/// An application to make selectable.
+#[derive(Clone, Copy)]
+pub struct Selectable<'a> {
+    pub aid: &'a Aid,
+}
+
+impl ToCommand for Selectable<'_> {
+    ghost apdu = { λ tokens s. making_selectable tokens s.aid.now };
+
+    fn to_command(&self, tokens: &Tokens) -> Plain {
+        selectable::command(self.aid, tokens)
+    }
+}
+
+/// A GET STATUS with this P2.
+#[derive(Clone, Copy)]
+pub struct Listed<'a> {
+    pub listing: &'a Listing,
+    pub p2: u8,
+}
+
+impl ToCommand for Listed<'_> {
+    ghost apdu = { λ _ l. listing_command l.p2 l.listing.now };
+
+    fn to_command(&self, _: &Tokens) -> Plain {
+        self.listing.command(self.p2)
+    }
+}
 
 /// Sends a plain command. It is out of line, as the others are: what they make is set to zeros where they are called.
 #[inline(never)]
@@ -93,111 +164,20 @@ pub fn put_key<L: CardLink>(
     send(host, wire, link, false, &command.command())
 }
 
-/// INSTALL for install, and make selectable.
+/// Sends the command that the host makes.
 #[inline(never)]
-pub fn install<L: CardLink>(
+pub fn send_made<L: CardLink, C: ToCommand>(
     host: &mut HostState,
     wire: &mut Wire,
     link: &mut L,
-    installation: &Installation,
+    made_of: &C,
 ) -> Result<Printout, LinkFailed>
     requires up { L.up link.old ≡ true }
     ensures played { (whole : Host) → RepresentsHost host.old whole
-        → Plays L.CardLink link.old link.new (sending false whole (installing whole.tokens installation.now)) host.new result }
+        → Plays L.CardLink link.old link.new (sending false whole (C.apdu whole.tokens made_of.now)) host.new result }
     ensures up { OnOk result (L.up link.new ≡ true) }
     ensures cause { HasCause (L.faults link.old) (L.faults link.new) result }
 {
-    let command = installation.command(&host.tokens);
-    send_one(host, wire, link, false, &command)
-}
-
-/// INSTALL for make selectable.
-#[inline(never)]
-pub fn make_selectable<L: CardLink>(
-    host: &mut HostState,
-    wire: &mut Wire,
-    link: &mut L,
-    aid: &Aid,
-) -> Result<Printout, LinkFailed>
-    requires up { L.up link.old ≡ true }
-    ensures played { (whole : Host) → RepresentsHost host.old whole
-        → Plays L.CardLink link.old link.new (sending false whole (making_selectable whole.tokens aid.now)) host.new result }
-    ensures up { OnOk result (L.up link.new ≡ true) }
-    ensures cause { HasCause (L.faults link.old) (L.faults link.new) result }
-{
-    let command = selectable::command(aid, &host.tokens);
-    send_one(host, wire, link, false, &command)
-}
-
-/// INSTALL for extradition.
-#[inline(never)]
-pub fn extradite<L: CardLink>(
-    host: &mut HostState,
-    wire: &mut Wire,
-    link: &mut L,
-    extradition: &Extradition,
-) -> Result<Printout, LinkFailed>
-    requires up { L.up link.old ≡ true }
-    ensures played { (whole : Host) → RepresentsHost host.old whole
-        → Plays L.CardLink link.old link.new (sending false whole (extraditing whole.tokens extradition.now)) host.new result }
-    ensures up { OnOk result (L.up link.new ≡ true) }
-    ensures cause { HasCause (L.faults link.old) (L.faults link.new) result }
-{
-    let command = extradition.command(&host.tokens);
-    send_one(host, wire, link, false, &command)
-}
-
-/// DELETE of an object.
-#[inline(never)]
-pub fn delete<L: CardLink>(
-    host: &mut HostState,
-    wire: &mut Wire,
-    link: &mut L,
-    deletion: &Deletion,
-) -> Result<Printout, LinkFailed>
-    requires up { L.up link.old ≡ true }
-    ensures played { (whole : Host) → RepresentsHost host.old whole
-        → Plays L.CardLink link.old link.new (sending false whole (deleting whole.tokens deletion.now)) host.new result }
-    ensures up { OnOk result (L.up link.new ≡ true) }
-    ensures cause { HasCause (L.faults link.old) (L.faults link.new) result }
-{
-    let command = deletion.command(&host.tokens);
-    send_one(host, wire, link, false, &command)
-}
-
-/// SET STATUS.
-#[inline(never)]
-pub fn change_life<L: CardLink>(
-    host: &mut HostState,
-    wire: &mut Wire,
-    link: &mut L,
-    change: &LifeChange,
-) -> Result<Printout, LinkFailed>
-    requires up { L.up link.old ≡ true }
-    ensures played { (whole : Host) → RepresentsHost host.old whole
-        → Plays L.CardLink link.old link.new (sending false whole (changing_life change.now)) host.new result }
-    ensures up { OnOk result (L.up link.new ≡ true) }
-    ensures cause { HasCause (L.faults link.old) (L.faults link.new) result }
-{
-    let command = change.command();
-    send_one(host, wire, link, false, &command)
-}
-
-/// GET STATUS, with this P2.
-#[inline(never)]
-pub fn list<L: CardLink>(
-    host: &mut HostState,
-    wire: &mut Wire,
-    link: &mut L,
-    listing: &Listing,
-    p2: u8,
-) -> Result<Printout, LinkFailed>
-    requires up { L.up link.old ≡ true }
-    ensures played { (whole : Host) → RepresentsHost host.old whole
-        → Plays L.CardLink link.old link.new (sending false whole (listing_command p2 listing.now)) host.new result }
-    ensures up { OnOk result (L.up link.new ≡ true) }
-    ensures cause { HasCause (L.faults link.old) (L.faults link.new) result }
-{
-    let command = listing.command(p2);
+    let command = made_of.to_command(&host.tokens);
     send_one(host, wire, link, false, &command)
 }

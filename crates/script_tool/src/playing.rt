@@ -12,9 +12,7 @@ ghost use Rattle.script_tool.specs.Kept.{RepresentsHost, printed_of};
 ghost use Rattle.script_tool.specs.Play.{FitsBlocks, playing, playing_control, playing_exchange, playing_put_key, wanting};
 ghost use Rattle.script_tool.specs.Played.{IsPlayed, Plays};
 
-use crate::commands::{
-    change_life, delete, extradite, install, list, make_selectable, put_key, send_one, store,
-};
+use crate::commands::{Listed, Selectable, put_key, send_made, send_one, store};
 use crate::host_state::HostState;
 use crate::in_plain::{raw, select};
 use crate::link::{CardLink, LinkFailed};
@@ -53,13 +51,13 @@ fn play_exchange<L: CardLink>(
         Exchange::Store(field) => store(host, wire, link, field),
         Exchange::Send(command) => send_one(host, wire, link, false, command),
         Exchange::Bad(command) => send_one(host, wire, link, true, command),
-        Exchange::Install(installation) => install(host, wire, link, installation),
-        Exchange::Selectable(aid) => make_selectable(host, wire, link, aid),
-        Exchange::Extradite(extradition) => extradite(host, wire, link, extradition),
-        Exchange::Delete(deletion) => delete(host, wire, link, deletion),
-        Exchange::Life(change) => change_life(host, wire, link, change),
-        Exchange::List(listing) => list(host, wire, link, listing, FIRST),
-        Exchange::More(listing) => list(host, wire, link, listing, NEXT),
+        Exchange::Install(installation) => send_made(host, wire, link, installation),
+        Exchange::Selectable(aid) => send_made(host, wire, link, &Selectable { aid }),
+        Exchange::Extradite(extradition) => send_made(host, wire, link, extradition),
+        Exchange::Delete(deletion) => send_made(host, wire, link, deletion),
+        Exchange::Life(change) => send_made(host, wire, link, change),
+        Exchange::List(listing) => send_made(host, wire, link, &Listed { listing, p2: FIRST }),
+        Exchange::More(listing) => send_made(host, wire, link, &Listed { listing, p2: NEXT }),
     }
 }
 
