@@ -17,6 +17,19 @@ pub record CommandForm : Type 1 where
   pub confirms : Admitted → List (List ℕ) → Type 0
   pub does : Admitted → Effect → Type 0
 
+-- One that no receipt confirms: its instruction byte, the P1 and P2, the data field, its rules, when each fails, and what it does.
+abbrev pub unreceipted_form :
+    ℕ → (ℕ → ℕ → Type 0) → (ℕ → ℕ → List ℕ → Type 0) → List Rule → (Admitted → Rule → Type 0) → (Admitted → Effect → Type 0) → CommandForm
+unreceipted_form instruction takes takes_field rules fails does = record {
+  instruction = instruction;
+  takes = takes;
+  takes_field = takes_field;
+  rules = rules;
+  fails = fails;
+  confirms = λ admitted aids. ⊥;
+  does = does;
+}
+
 -- the first of its own rules that fails, or none
 abbrev pub FailsFirst : CommandForm → Admitted → Option Rule → Type 0
 FailsFirst form admitted = IsFirst (form.fails admitted) form.rules

@@ -5,7 +5,7 @@ use Rattle.card_types.specs.declared.level.Level.{Level}
 use Rattle.scp03_card.specs.Offer.{Offer}
 use Rattle.scp03_card.specs.Session.{HasCryptogram, HasMac, answered}
 use Rattle.policy_machine.specs.Admission.{Admitted}
-use Rattle.policy_machine.specs.CommandForm.{CommandForm}
+use Rattle.policy_machine.specs.CommandForm.{CommandForm, unreceipted_form}
 use Rattle.policy_machine.specs.State.{Effect, Secured, offer_on, with_secure_channel}
 use Rattle.policy_machine.specs.Refusal.{Refusal, refusal}
 use Rattle.policy_machine.specs.declared.external_authenticate.RuleEA.{RuleEA}
@@ -60,12 +60,4 @@ pub record ExternalAuthenticateEffect (admitted : Admitted) (done : Effect) : Ty
 
 -- EXTERNAL AUTHENTICATE
 abbrev pub external_authenticate : CommandForm
-external_authenticate = record {
-  instruction = 0x82;
-  takes = ExternalAuthenticateParameters;
-  takes_field = λ p1 p2. ExternalAuthenticateField;
-  rules = external_authenticate_rules;
-  fails = ExternalAuthenticateFails;
-  confirms = λ admitted aids. ⊥;
-  does = ExternalAuthenticateEffect;
-}
+external_authenticate = unreceipted_form 0x82 ExternalAuthenticateParameters (λ p1 p2. ExternalAuthenticateField) external_authenticate_rules ExternalAuthenticateFails ExternalAuthenticateEffect

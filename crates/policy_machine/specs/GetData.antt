@@ -5,7 +5,7 @@ use Rattle.bertlv.specs.Spelling.{AreElements, Element, Spelling}
 use Rattle.card_types.specs.Registry.{Key, Counter, Object, Registry, keys_of, object_named}
 use Rattle.scp03_card.specs.Offer.{counter_bytes}
 use Rattle.policy_machine.specs.Admission.{Admitted}
-use Rattle.policy_machine.specs.CommandForm.{CommandForm}
+use Rattle.policy_machine.specs.CommandForm.{CommandForm, unreceipted_form}
 use Rattle.policy_machine.specs.KeySets.{UsesCounter}
 use Rattle.policy_machine.specs.State.{Effect, selected_on}
 use Rattle.policy_machine.specs.Refusal.{Refusal, refusal}
@@ -71,12 +71,4 @@ pub record GetDataEffect (admitted : Admitted) (done : Effect) : Type 0 where
 
 -- GET DATA, of any P1 and P2
 abbrev pub get_data : CommandForm
-get_data = record {
-  instruction = 0xCA;
-  takes = λ p1 p2. Unit {0};
-  takes_field = λ p1 p2. GetDataField;
-  rules = get_data_rules;
-  fails = GetDataFails;
-  confirms = λ admitted aids. ⊥;
-  does = GetDataEffect;
-}
+get_data = unreceipted_form 0xCA (λ p1 p2. Unit {0}) (λ p1 p2. GetDataField) get_data_rules GetDataFails GetDataEffect

@@ -14,7 +14,7 @@ use Rattle.card_types.specs.Registry.{Entry, LoadFile, Registry}
 use Rattle.card_types.specs.declared.factory.TheConstants.{FACTORY_FILE, FACTORY_MODULE, ISSUER}
 use Rattle.policy_machine.specs.Admission.{Admitted}
 use Rattle.policy_machine.specs.Charge.{HoldsPrivilege, IsAtOrAbove}
-use Rattle.policy_machine.specs.CommandForm.{CommandForm}
+use Rattle.policy_machine.specs.CommandForm.{CommandForm, unreceipted_form}
 use Rattle.policy_machine.specs.Management.{ManagementFails, acting}
 use Rattle.policy_machine.specs.Refusal.{Refusal, refusal}
 use Rattle.policy_machine.specs.State.{Effect, Channel, Place, Volatile, channel_at, place_in, with_channel}
@@ -205,12 +205,4 @@ pub record GetStatusEffect (admitted : Admitted) (done : Effect) : Type 0 where
 
 -- GET STATUS
 abbrev pub get_status : CommandForm
-get_status = record {
-  instruction = 0xF2;
-  takes = StatusParameters;
-  takes_field = λ p1 p2 body. (partial : List ℕ) × IsSearch body partial;
-  rules = get_status_rules;
-  fails = GetStatusFails;
-  confirms = λ admitted aids. ⊥;
-  does = GetStatusEffect;
-}
+get_status = unreceipted_form 0xF2 StatusParameters (λ p1 p2 body. (partial : List ℕ) × IsSearch body partial) get_status_rules GetStatusFails GetStatusEffect

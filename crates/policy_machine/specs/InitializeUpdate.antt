@@ -6,7 +6,7 @@ use Rattle.card_types.specs.declared.factory.TheConstants.{ISSUER}
 use Rattle.card_types.specs.declared.limits.TheConstants.{COUNTER_LIMIT}
 use Rattle.scp03_card.specs.Offer.{Offer, card_cryptogram, counter_bytes, offered}
 use Rattle.policy_machine.specs.Admission.{Admitted}
-use Rattle.policy_machine.specs.CommandForm.{CommandForm}
+use Rattle.policy_machine.specs.CommandForm.{CommandForm, unreceipted_form}
 use Rattle.policy_machine.specs.KeySets.{UsesSet}
 use Rattle.policy_machine.specs.Management.{ManagementFails, acting}
 use Rattle.policy_machine.specs.Select.{is_card_locked}
@@ -83,12 +83,4 @@ pub record InitializeUpdateEffect (admitted : Admitted) (done : Effect) : Type 0
 
 -- INITIALIZE UPDATE, of any P1
 abbrev pub initialize_update : CommandForm
-initialize_update = record {
-  instruction = 0x50;
-  takes = λ p1. InitializeUpdateParameters;
-  takes_field = λ p1 p2. InitializeUpdateField;
-  rules = offer_rules;
-  fails = InitializeUpdateFails;
-  confirms = λ admitted aids. ⊥;
-  does = InitializeUpdateEffect;
-}
+initialize_update = unreceipted_form 0x50 (λ p1. InitializeUpdateParameters) (λ p1 p2. InitializeUpdateField) offer_rules InitializeUpdateFails InitializeUpdateEffect

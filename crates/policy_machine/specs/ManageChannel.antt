@@ -3,7 +3,7 @@
 use Rattle.std.specs.Prelude.{◌≡◌, ◌⊎◌, ℕ, ◌≤◌, List, [], ◌∷◌, Bool, true, false, Option, None, Some, MatchOption, position, codes}
 use Rattle.card_types.specs.declared.factory.TheConstants.{ISSUER}
 use Rattle.policy_machine.specs.Admission.{Admitted}
-use Rattle.policy_machine.specs.CommandForm.{CommandForm}
+use Rattle.policy_machine.specs.CommandForm.{CommandForm, unreceipted_form}
 use Rattle.policy_machine.specs.State.{Effect, Channel, channel_at, fresh, with_channel, without_channel}
 use Rattle.policy_machine.specs.Refusal.{Refusal, refusal}
 use Rattle.policy_machine.specs.declared.rule.Rule.{Rule}
@@ -65,12 +65,4 @@ ManageChannelEffect admitted done =
 
 -- MANAGE CHANNEL
 abbrev pub manage_channel : CommandForm
-manage_channel = record {
-  instruction = 0x70;
-  takes = ManageChannelParameters;
-  takes_field = λ p1 p2. ManageChannelField;
-  rules = manage_channel_rules;
-  fails = ManageChannelFails;
-  confirms = λ admitted aids. ⊥;
-  does = ManageChannelEffect;
-}
+manage_channel = unreceipted_form 0x70 ManageChannelParameters (λ p1 p2. ManageChannelField) manage_channel_rules ManageChannelFails ManageChannelEffect

@@ -11,7 +11,7 @@ use Rattle.card_types.specs.declared.life.Life.{Life}
 use Rattle.card_types.specs.declared.life.Life.TheVariants as life
 use Rattle.card_types.specs.declared.life.LifeMark.{LifeMark}
 use Rattle.policy_machine.specs.Admission.{Admitted}
-use Rattle.policy_machine.specs.CommandForm.{CommandForm}
+use Rattle.policy_machine.specs.CommandForm.{CommandForm, unreceipted_form}
 use Rattle.policy_machine.specs.State.{Effect, with_selected}
 use Rattle.policy_machine.specs.Refusal.{Refusal, refusal}
 use Rattle.policy_machine.specs.declared.rule.Rule.{Rule}
@@ -91,12 +91,4 @@ SelectEffect admitted done = MatchOption (least_fitting admitted.at.registry adm
 
 -- SELECT
 abbrev pub select : CommandForm
-select = record {
-  instruction = 0xA4;
-  takes = SelectParameters;
-  takes_field = λ p1 p2. SelectField;
-  rules = select_rules;
-  fails = SelectFails;
-  confirms = λ admitted aids. ⊥;
-  does = SelectEffect;
-}
+select = unreceipted_form 0xA4 SelectParameters (λ p1 p2. SelectField) select_rules SelectFails SelectEffect
