@@ -31,6 +31,7 @@ pub mod NamesByAid
 pub mod Next
 pub mod NotAbove
 pub mod ObjectNames
+pub mod OneOfCode
 pub mod OthersWell
 pub mod PrivilegeFacts
 pub mod RaisedCounter

@@ -8,9 +8,9 @@ use Rattle.policy_machine.specs.State.{Effect, Secured, Volatile, with_secure_ch
 use Rattle.scp03_card.specs.Offer.{Offer}
 use Rattle.scp03_card.specs.Session.{HasCryptogram, HasMac, answered}
 use Rattle.policy_machine.proofs.SecureChannelSet.{offer_stands, secured_fits}
+use Rattle.card_types.proofs.OneOfCode.{level_by_code}
 use Rattle.card_types.specs.Level.{code_of}
 use Rattle.card_types.specs.declared.level.Level.{Level}
-use Rattle.card_types.specs.declared.level.Level.TheVariants.{Mac, EncMac, MacR, EncMacR, Full}
 use Rattle.policy_machine.proofs.SameEffect.{effect_same, state_same}
 use Rattle.policy_machine.proofs.Lawful.{IsLawful, IsReady, place_leaves_secure_channel, same_as, some_same, sound_with}
 use Rattle.std.proofs.Common.{Bool, true, false, List, [], ◌∷◌, ◌++◌, Option, None, Some, inl, inr}
@@ -32,26 +32,10 @@ external_authenticate_keeps admitted done ready does =
     let fits = secured_fits registry volatile admitted.channel ready.sound.fits ready.low (answered does.offer does.level) stands in
     sound_with admitted.at done.state ready.sound does.registry (subst (Fits registry) (sym does.volatile) fits)
 
--- a code is that of one level
-level_coded : ℕ → Level
-level_coded code =
-    if code == 0x01 then Mac else if code == 0x03 then EncMac else if code == 0x11 then MacR else if code == 0x13 then EncMacR else Full
-
-coded_back : (level : Level) → level_coded (code_of level) ≡ level
-unfolding level_coded
-coded_back Mac = refl
-coded_back EncMac = refl
-coded_back MacR = refl
-coded_back EncMacR = refl
-coded_back Full = refl
-
-level_one : (a b : Level) → code_of a ≡ code_of b → a ≡ b
-level_one a b same = sym (coded_back a) ∙ ap level_coded same ∙ coded_back b
-
 external_authenticate_one : (admitted : Admitted) (a b : Effect) → ExternalAuthenticateEffect admitted a → ExternalAuthenticateEffect admitted b → a ≡ b
 external_authenticate_one admitted a b one other =
     let offers = some_same one.offer other.offer (sym one.answers.0 ∙ other.answers.0) in
-    let levels = level_one one.level other.level (one.answers.1 ∙ sym other.answers.1) in
+    let levels = level_by_code one.level other.level (one.answers.1 ∙ sym other.answers.1) in
     effect_same a b
     (state_same a.state b.state (one.registry ∙ sym other.registry)
     (one.volatile ∙ (λ i. with_secure_channel admitted.at.volatile admitted.channel (Secured (answered (offers i) (levels i)))) ∙ sym other.volatile))
@@ -113,7 +97,7 @@ module _ (admitted : Admitted) (level : Level) (body : List ℕ) (takes : TakesC
 
   mac_passes : HasMac offer level body → ExternalAuthenticateFails admitted (EA EA3) → ⊥
   mac_passes right (other, at, answers, wrong) =
-      wrong (subst (λ (l : Level). HasMac other l admitted.command.body) (level_one level at (code ∙ sym answers.1))
+      wrong (subst (λ (l : Level). HasMac other l admitted.command.body) (level_by_code level at (code ∙ sym answers.1))
       (subst (λ (o : Offer). HasMac o level admitted.command.body) (some_same offer other (sym is ∙ answers.0)) (subst (HasMac offer level) same right)))
 
   pub answer_passes : HasCryptogram offer body → HasMac offer level body → Judges admitted None

@@ -5,12 +5,11 @@ use Rattle.std.proofs.lemmas.Grind.{same_number_lists, common_steps}
 use Rattle.std.proofs.lemmas.Bool.{cases_lt}
 use Rattle.std.proofs.lemmas.List.{get_or_past}
 use Rattle.byteorder.specs.Endian.{big_from}
-use Rattle.card_types.specs.CardLife.{card_life_code}
+use Rattle.card_types.proofs.OneOfCode.{card_life_by_code}
 use Rattle.card_types.specs.LifeMark.{life_mark_code}
 use Rattle.card_types.specs.Represents.{keeps_counter}
 use Rattle.card_types.specs.Well.{pages_of}
 use Rattle.card_types.specs.declared.card_life.CardLife.{CardLife}
-use Rattle.card_types.specs.declared.card_life.CardLife.TheVariants.{OpReady, Initialized, Secured, Locked, Terminated}
 use Rattle.card_types.specs.declared.life.Life.{Life}
 use Rattle.card_types.specs.declared.life.Life.TheVariants.{Installed, Selectable, Personalized}
 use Rattle.card_types.specs.declared.life.LifeMark.{LifeMark}
@@ -28,20 +27,8 @@ use Rattle.rec_store.specs.Superblock.{IsSuperblock}
 use Rattle.rec_store.specs.declared.store_layout.Layout.{Layout}
 use Rattle.rec_store.specs.declared.store_layout.Layout.TheVariants.{Second, Third}
 
--- the card's life of a code
-card_life_of : ℕ → CardLife
-card_life_of n = if n == 0x01 then OpReady else (if n == 0x07 then Initialized else (if n == 0x0F then Secured else (if n == 0x7F then Locked else Terminated)))
-
-card_life_back : (life : CardLife) → card_life_of (card_life_code life) ≡ life
-unfolding card_life_of
-card_life_back OpReady = refl
-card_life_back Initialized = refl
-card_life_back Secured = refl
-card_life_back Locked = refl
-card_life_back Terminated = refl
-
 pub one_card_life : (bytes : List ℕ) (a b : CardLife) {x y : Layout} → IsSuperblock bytes x a → IsSuperblock bytes y b → a ≡ b
-one_card_life bytes a b first second = sym (card_life_back a) ∙ ap card_life_of (sym first.code ∙ second.code) ∙ card_life_back b
+one_card_life bytes a b first second = card_life_by_code a b (sym first.code ∙ second.code)
 
 -- a number is that of one layout
 pub one_layout : (a b : Layout) → layout_code a ≡ layout_code b → a ≡ b
