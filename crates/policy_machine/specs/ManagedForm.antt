@@ -51,8 +51,8 @@ pub record JudgedForm : Type 1 where
   pub own : OwnRules Asked
   pub delegation : Delegation Asked
 
--- A form of card content management with this instruction byte, that takes such P1 and P2 and asks so. The rules M1 and M2 come first;
--- it has no others yet, and is delegated to nobody.
+-- A form of card content management: its instruction byte, the P1 and P2 that it takes, and what its data field asks for. M1 and M2 come
+-- first. A form says besides which rules it has of its own, and how it is delegated, or which others come first.
 abbrev pub content_form : {Asked : Type 0} → ℕ → (ℕ → ℕ → Type 0) → (ℕ → ℕ → List ℕ → Asked → Type 0) → JudgedForm
 content_form instruction takes asks = record {
   instruction = instruction;
