@@ -1,5 +1,6 @@
 -- The one place where all commands are gone through: what is shown of each form, and that one form at most takes a command.
 use Rattle.std.proofs.Common.{ℕ, Bool, true, false, List, [], ◌∷◌, inl, inr, refl}
+use Rattle.policy_machine.specs.Classes.{changing, managing}
 use Rattle.policy_machine.specs.CommandForm.{CommandForm}
 use Rattle.policy_machine.specs.Commands.{AtMostOne, Takes, forms_of, listed}
 use Rattle.policy_machine.specs.Laws.{OneForm}
@@ -8,7 +9,7 @@ use Rattle.policy_machine.proofs.AlikeManaged.{card_status_alike, delete_key_ali
 use Rattle.policy_machine.proofs.AlikePlain.{get_data_alike, get_status_alike, initialize_update_alike, manage_channel_alike, select_alike}
 use Rattle.policy_machine.proofs.CardStatusLaws.{managed_card_status_lawful}
 use Rattle.policy_machine.proofs.CardStatusSpares.{card_status_sparing}
-use Rattle.policy_machine.proofs.ChangingBytes.{deleting, installing, loading_in, manages, other_byte, putting, setting, storing}
+use Rattle.policy_machine.proofs.ChangingBytes.{other_byte}
 use Rattle.policy_machine.proofs.DeleteForms.{deletions_apart}
 use Rattle.policy_machine.proofs.DeleteKeyLaws.{managed_delete_key_lawful}
 use Rattle.policy_machine.proofs.DeleteKeySpares.{delete_key_sparing}
@@ -28,6 +29,7 @@ use Rattle.policy_machine.proofs.InstallApplicationLaws.{managed_install_lawful}
 use Rattle.policy_machine.proofs.InstallApplicationSpares.{install_sparing}
 use Rattle.policy_machine.proofs.InstallForms.{AreApart, extradition_apart, install_apart, selectable_apart}
 use Rattle.policy_machine.proofs.InstallLoadLaws.{install_load_lawful}
+use Rattle.policy_machine.proofs.Instructed.{among}
 use Rattle.policy_machine.proofs.Lawful.{IsLawful, same_as}
 use Rattle.policy_machine.proofs.LoadLaws.{load_lawful}
 use Rattle.policy_machine.proofs.LoadRises.{load_rising}
@@ -81,26 +83,26 @@ all_forms ins =
     (either _ _ _ (alone _ (plain_laws _ get_data_lawful (λ admitted aids so. so) (other_byte 0xCA refl) (inl get_data_alike)))
     (either _ _ _ (alone _ (plain_laws _ initialize_update_lawful (λ admitted aids so. so) (other_byte 0x50 refl) (inl initialize_update_alike)))
     (either _ _ _ (alone _ (plain_laws _ external_authenticate_lawful (λ admitted aids so. so) (other_byte 0x82 refl) (inr (inr refl))))
-    (either _ _ _ (alone _ (managed_laws _ managed_put_key_lawful putting put_key_numbers put_key_sparing (inr (inl refl))))
-    (either _ _ _ (alone _ (managed_laws _ managed_store_data_lawful storing store_data_numbers store_data_sparing (inl store_data_alike)))
-    (either _ _ _ (beside _ _ (managed_laws _ managed_delete_key_lawful deleting delete_key_numbers delete_key_sparing (inl delete_key_alike)) deletions_apart
-    (alone _ (managed_laws _ managed_delete_object_lawful deleting deletion_numbers deletion_sparing (inl deletion_alike))))
-    (either _ _ _ (beside _ _ (managed_laws _ managed_install_lawful installing install_numbers install_sparing (inl install_alike)) install_apart
-    (beside _ _ (managed_laws _ managed_selectable_lawful installing selectable_numbers selectable_sparing (inl selectable_alike)) selectable_apart
-    (beside _ _ (managed_laws _ managed_extradition_lawful installing extradition_numbers extradition_sparing (inl extradition_alike)) extradition_apart
+    (either _ _ _ (alone _ (managed_laws _ managed_put_key_lawful (among changing 0xD8 refl) put_key_numbers put_key_sparing (inr (inl refl))))
+    (either _ _ _ (alone _ (managed_laws _ managed_store_data_lawful (among changing 0xE2 refl) store_data_numbers store_data_sparing (inl store_data_alike)))
+    (either _ _ _ (beside _ _ (managed_laws _ managed_delete_key_lawful (among changing 0xE4 refl) delete_key_numbers delete_key_sparing (inl delete_key_alike)) deletions_apart
+    (alone _ (managed_laws _ managed_delete_object_lawful (among changing 0xE4 refl) deletion_numbers deletion_sparing (inl deletion_alike))))
+    (either _ _ _ (beside _ _ (managed_laws _ managed_install_lawful (among changing 0xE6 refl) install_numbers install_sparing (inl install_alike)) install_apart
+    (beside _ _ (managed_laws _ managed_selectable_lawful (among changing 0xE6 refl) selectable_numbers selectable_sparing (inl selectable_alike)) selectable_apart
+    (beside _ _ (managed_laws _ managed_extradition_lawful (among changing 0xE6 refl) extradition_numbers extradition_sparing (inl extradition_alike)) extradition_apart
     (alone _ load_begun_laws))))
-    (either _ _ _ (beside _ _ (managed_laws _ managed_card_status_lawful setting card_status_numbers card_status_sparing (inl card_status_alike)) status_forms_apart
-    (alone _ (managed_laws _ managed_entry_status_lawful setting entry_status_numbers entry_status_sparing (inl entry_status_alike))))
+    (either _ _ _ (beside _ _ (managed_laws _ managed_card_status_lawful (among changing 0xF0 refl) card_status_numbers card_status_sparing (inl card_status_alike)) status_forms_apart
+    (alone _ (managed_laws _ managed_entry_status_lawful (among changing 0xF0 refl) entry_status_numbers entry_status_sparing (inl entry_status_alike))))
     (either _ _ _ (alone _ load_laws)
     (either _ _ _ (alone _ listing_laws) none)))))))))))
   where
     load_begun_laws : FormLaws install_load
     load_begun_laws =
-        quiet_laws install_load (install_load_lawful (manages _ installing)) (λ admitted aids so. so)
+        quiet_laws install_load (install_load_lawful (among managing 0xE6 refl)) (λ admitted aids so. so)
         (λ admitted done does. same_as admitted.at.registry done.state.registry does.registry) (inl install_load_alike)
 
     load_laws : FormLaws loading
-    load_laws = record { lawful = load_lawful (manages _ loading_in); rising = load_rising; sparing = load_sparing loading_in; alike = inl load_alike }
+    load_laws = record { lawful = load_lawful (among managing 0xE8 refl); rising = load_rising; sparing = load_sparing (among changing 0xE8 refl); alike = inl load_alike }
 
     listing_laws : FormLaws get_status
     listing_laws =

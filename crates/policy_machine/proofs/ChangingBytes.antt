@@ -1,5 +1,5 @@
 -- The instruction bytes that may change the registry, and others.
-use Rattle.std.proofs.Common.{◌≡◌, ℕ, [], ◌∷◌, false, refl, sym, ◌∙◌, arith}
+use Rattle.std.proofs.Common.{◌≡◌, ℕ, [], ◌∷◌, false, sym, ◌∙◌}
 use Rattle.std.specs.List.{list_any}
 use Rattle.std.specs.Prelude.{Contains, ◌==◌}
 use Rattle.std.proofs.lemmas.Bool.{true≢false}
@@ -14,21 +14,3 @@ other_byte byte none there = true≢false (sym (found_among managing byte there)
 -- one that may change the registry manages content
 pub manages : (byte : ℕ) → Contains changing byte → Contains managing byte
 manages byte there = Contains-append_left changing (0xF2 ∷ []) byte there
-
-pub putting : Contains changing 0xD8
-putting = (0, omega arith, refl)
-
-pub storing : Contains changing 0xE2
-storing = (1, omega arith, refl)
-
-pub deleting : Contains changing 0xE4
-deleting = (2, omega arith, refl)
-
-pub installing : Contains changing 0xE6
-installing = (3, omega arith, refl)
-
-pub loading_in : Contains changing 0xE8
-loading_in = (4, omega arith, refl)
-
-pub setting : Contains changing 0xF0
-setting = (5, omega arith, refl)

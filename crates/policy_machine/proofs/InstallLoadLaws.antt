@@ -15,7 +15,7 @@ use Rattle.policy_machine.specs.Sound.{Fits, IsHashLength, IsSound, IsWellLoad}
 use Rattle.policy_machine.specs.State.{Effect, Volatile, with_load}
 use Rattle.policy_machine.specs.declared.install_load.RuleIL.TheVariants.{IL3, IL4, IL6, IL7}
 use Rattle.policy_machine.specs.declared.rule.Rule.{Rule}
-use Rattle.policy_machine.proofs.ChangingBytes.{installing, manages}
+use Rattle.policy_machine.proofs.Instructed.{among}
 use Rattle.policy_machine.proofs.ExtraditionLaws.{domain_stable}
 use Rattle.policy_machine.proofs.Judging.{judged}
 use Rattle.policy_machine.proofs.Lawful.{HasNoPlaceOn, IsLawful, IsReady, managed_apart, none_of, sound_with}
@@ -65,7 +65,7 @@ begun_well admitted given aid ready is own =
     let apart = managed_apart admitted.command.ins install_load.instruction is (omega arith) in
     record {
       aid = aid;
-      session = ready.session (subst (Contains managing) (sym is) (manages 0xE6 installing));
+      session = ready.session (subst (Contains managing) (sym is) (among managing 0xE6 refl));
       no_entry = none_of (entry_named registry given.file) (λ some. own IL3 (2, omega arith, refl) (inl some));
       no_file = none_of (file_named registry given.file) (λ some. own IL3 (2, omega arith, refl) (inr some));
       domain = domain_given registry given.domain (acting admitted) (ready.domain apart.0 apart.1) (own IL4 (3, omega arith, refl));
