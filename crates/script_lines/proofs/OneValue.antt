@@ -9,9 +9,9 @@ use Rattle.apdu_core.proofs.OneSpelling.{one_command, same_reply}
 use Rattle.apdu_core.specs.Reply.{status_bytes}
 use Rattle.apdu_core.specs.declared.reply.Status.{Status}
 use Rattle.arrayvec.specs.ArrayVec.{ArrayVec}
+use Rattle.card_types.proofs.OneOfCode.{level_by_code}
 use Rattle.card_types.specs.Level.{code_of}
 use Rattle.card_types.specs.declared.level.Level.{Level}
-use Rattle.card_types.specs.declared.level.Level.TheVariants.{Mac, EncMac, MacR, EncMacR, Full}
 use Rattle.script_lines.specs.Install.{SpellsParameters, SpellsPrivileges, install_p1}
 use Rattle.script_lines.specs.Load.{SpellsCount, SpellsDomain, hash_word}
 use Rattle.script_lines.specs.Send.{SpellsPlain, apdu_with}
@@ -46,19 +46,8 @@ pub one_aid : (word a b : List ℕ) → SpellsAid word a → SpellsAid word b �
 unfolding SpellsAid
 one_aid word a b x y = decode_of-same word a b x.0 y.0
 
-level_coded : ℕ → Level
-level_coded code = if code == 0x01 then Mac else if code == 0x03 then EncMac else if code == 0x11 then MacR else if code == 0x13 then EncMacR else Full
-
-level_back : (level : Level) → level_coded (code_of level) ≡ level
-unfolding level_coded
-level_back Mac = refl
-level_back EncMac = refl
-level_back MacR = refl
-level_back EncMacR = refl
-level_back Full = refl
-
 pub one_level : (word : List ℕ) (a b : Level) → SpellsLevel word a → SpellsLevel word b → a ≡ b
-one_level word a b x y = sym (level_back a) ∙ ap level_coded (one_byte word (code_of a) (code_of b) x y) ∙ level_back b
+one_level word a b x y = level_by_code a b (one_byte word (code_of a) (code_of b) x y)
 
 pub one_status : (word : List ℕ) (a b : Status) → SpellsStatus word a → SpellsStatus word b → a ≡ b
 unfolding SpellsStatus
