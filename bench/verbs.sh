@@ -9,7 +9,8 @@
 # and plain commands. `replay` gets the sessions also with the wanted reply behind each command.
 # `play` gets a script whose commands are those of the sessions; there both ends are computed.
 # `desk` judges 200,000 receipts that fit, beside a C program over the CMAC of OpenSSL (desk.c). `cap` packs the largest CAP file, and `run`
-# reads as many lines of the same length that are no commands: medians of PACKS runs each, 1,000 if unset.
+# reads as many lines of the same length that are no commands: medians of PACKS runs each, 1,000 if unset. `cap` has two rates, by the lines
+# that it reads and by those that it makes, which are more.
 # `mill` plays 1,000, 2,000 and 10,000 rounds, and is timed alone.
 #
 # The verbs take turns, and the best of TRIES times counts, 5 if unset. The card stands in memory,
@@ -126,7 +127,13 @@ say desk "%s s  %s of the receipts a second of the C program (goal: at least 0.8
 renew
 race_short "$packs" "cap cap_file" "read_lines no_commands"
 echo "a CAP file of 32,768 bytes packed, median of $packs"
-say cap "%s microseconds  %s of the lines a second that run reads (goal: at least 1.0)" "${median["cap cap_file"]}" "$(over "${median["read_lines no_commands"]}" "${median["cap cap_file"]}")"
+of_cap=${median["cap cap_file"]}
+of_run=${median["read_lines no_commands"]}
+taken=$(wc -l <"$tmp/cap_file")
+made=$(wc -l <"$tmp/packed")
+say cap "%s microseconds, run %s" "$of_cap" "$of_run"
+say made "%s lines  %s of the lines a second that run reads (goal: at least 1.0)" "$made" "$(over $((made * of_run)) $((taken * of_cap)))"
+say read "%s lines  %s" "$taken" "$(over "$of_run" "$of_cap")"
 
 if "$gp" mill 1 1 >/dev/null; then
     mill() { "$gp" mill 7 "${1##*-}" >/dev/null; }
