@@ -68,15 +68,20 @@ def orders(titles):
     found = {}
     on_form = expand(lists["form_rules"].split("++")[1])
     first = re.search(r"^rules_before_form ins = if ins == 0x(\w\w)", specs, re.M).group(1)
-    form = r"^-- (.*)\nabbrev pub \w+ : CommandForm\n\w+ = record \{\n  instruction = 0x(\w\w);\n(?:.*\n)*?  rules = (\w+);"
-    for title, ins, rules in re.findall(form, specs, re.M):
+    head = r"^-- (.*)\nabbrev pub \w+ : CommandForm\n\w+ = "
+    whole = re.findall(head + r"record \{\n  instruction = 0x(\w\w);\n(?:.*\n)*?  rules = (\w+);", specs, re.M)
+    unreceipted = re.findall(head + r"unreceipted_form 0x(\w\w) .* (\w+) \w+Fails \w+$", specs, re.M)
+    for title, ins, rules in whole + unreceipted:
         before = expand(lists["rules_before_form"]) if ins == first else []
         found[title.split(",")[0]] = [ins, before + on_form + expand(lists[rules])]
 
-    # A form of card content management: the rules on card and domain, those of its own, and those on the approval.
-    judged = r"^ +instruction = 0x(\w\w);\n(?:(?! *instruction).*\n)*?^ +first_rules = (.*);\n(?:.*\n)*?^ +group = (\w+);\n^ +own_rules = (.*);\n(?:.*\n)*?^ +delegation = (.*);$"
+    # A form of card content management: the rules on card and domain, those of its own, and those on the approval. What it does not say
+    # itself is what `content_form` says.
+    begun = re.search(r"^content_form .*\n((?:  .*\n)+)", specs, re.M).group(1)
     approvals = {"to_nobody": [], "to_holders": expand(lists["delegation_rules"])}
-    for ins, early, group, own_rules, delegation in re.findall(judged, specs, re.M):
+    for ins, said in re.findall(r"\(content_form (?:\{.*?\} )?0x(\w\w) .*?\) (\{.*(?:\n    .*|\n  [od].*)*)", specs):
+        group, own_rules = re.search(r"\bown = ruled (\w+) \((.*?)\)", said).groups()
+        early, delegation = [re.search(rf"\b{field} = (.*);", said + begun).group(1) for field in ("first_rules", "delegation")]
         approval = re.search(r"\brules = (.*?) \}", delegation)
         late = expand(approval.group(1)) if approval else approvals[delegation.split()[0]]
         found[titles[group]] = [ins, on_form + expand(early) + expand(own_rules) + late]
