@@ -12,7 +12,7 @@ use Rattle.policy_machine.specs.CommandForm.{FailsFirst}
 use Rattle.policy_machine.specs.DeleteObject.{DeletingFails, DeletionAsked, HasOthers, IsInUse, managed_delete_object}
 use Rattle.policy_machine.specs.EntryStatus.{SettingStatusFails, managed_entry_status}
 use Rattle.policy_machine.specs.declared.entry_status.RuleSS.{RuleSS}
-use Rattle.policy_machine.specs.declared.entry_status.RuleSS.TheVariants.{SS1, SS2, SS3, SS4}
+use Rattle.policy_machine.specs.declared.entry_status.RuleSS.TheVariants.{SS3}
 use Rattle.policy_machine.specs.Extradition.{ExtraditingFails, managed_extradition}
 use Rattle.policy_machine.specs.Refusal.{IsFirst}
 use Rattle.policy_machine.specs.InitializeUpdate.{InitializeUpdateFails, initialize_update, offer_rules}
@@ -24,11 +24,11 @@ use Rattle.policy_machine.specs.ManagedForm.{CommandAsks, JudgedForm, JudgedFail
 use Rattle.policy_machine.specs.declared.delete_object.RuleDO.{RuleDO}
 use Rattle.policy_machine.specs.declared.delete_object.RuleDO.TheVariants.{DO1, DO2, DO3, DO4}
 use Rattle.policy_machine.specs.declared.extradition.RuleEX.{RuleEX}
-use Rattle.policy_machine.specs.declared.extradition.RuleEX.TheVariants.{EX1, EX2, EX3, EX4, EX5, EX6, EX7}
+use Rattle.policy_machine.specs.declared.extradition.RuleEX.TheVariants.{EX2, EX4, EX7}
 use Rattle.policy_machine.specs.declared.install_application.RuleII.{RuleII}
-use Rattle.policy_machine.specs.declared.install_application.RuleII.TheVariants.{II1, II2, II3, II4, II5, II6, II7}
+use Rattle.policy_machine.specs.declared.install_application.RuleII.TheVariants.{II1, II2, II3, II4}
 use Rattle.policy_machine.specs.declared.install_load.RuleIL.{RuleIL}
-use Rattle.policy_machine.specs.declared.install_load.RuleIL.TheVariants.{IL1, IL2, IL3, IL4, IL5, IL6, IL7}
+use Rattle.policy_machine.specs.declared.install_load.RuleIL.TheVariants.{IL3, IL7}
 use Rattle.policy_machine.specs.Delegation.{IsNearestHolder}
 use Rattle.policy_machine.specs.declared.delegation.RuleRC.TheVariants.{RC1}
 use Rattle.policy_machine.specs.declared.delegation.RuleTK.TheVariants.{TK3}

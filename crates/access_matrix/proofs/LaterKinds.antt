@@ -11,7 +11,7 @@ use Rattle.access_matrix.specs.Next.{HasPlace, HasPlaceFrom, HasSpot, IsNext, No
 use Rattle.access_matrix.specs.Rights.{kind_of}
 use Rattle.access_matrix.specs.declared.act.Act.{Act}
 use Rattle.access_matrix.specs.declared.deed.Deed.{Deed}
-use Rattle.access_matrix.specs.declared.deed.Deed.TheVariants.{Delete, Related, Lock, Move, Install, Load}
+use Rattle.access_matrix.specs.declared.deed.Deed.TheVariants.{Delete}
 use Rattle.access_matrix.proofs.Places.{lower_first, not_above_first, not_greater, same_first, which_part}
 
 lower_kind : (k l : ℕ) → k < l → aid_order (k ∷ []) (l ∷ []) ≡ Less

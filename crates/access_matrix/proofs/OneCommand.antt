@@ -15,7 +15,7 @@ use Rattle.access_matrix.specs.Deeds.{IsThing}
 use Rattle.access_matrix.specs.Passing.{IsAccepted}
 use Rattle.access_matrix.specs.There.{judged_there, plain}
 use Rattle.access_matrix.specs.declared.deed.Deed.{Deed}
-use Rattle.access_matrix.specs.declared.deed.Deed.TheVariants.{Delete, Related, Lock, Move, Install, Load}
+use Rattle.access_matrix.specs.declared.deed.Deed.TheVariants.{Delete, Lock, Install, Load}
 
 -- no first free AID is below another
 not_lower : {P : Type 0} (registry : Registry) (a b : List ℕ) → (one : IsFreeAid registry a) (other : IsFreeAid registry b) → one.number < other.number → P

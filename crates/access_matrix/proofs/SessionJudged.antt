@@ -14,7 +14,7 @@ use Rattle.access_matrix.specs.Accepted.{AcceptsAsJudged, in_session}
 use Rattle.access_matrix.specs.Commands.{form_of, judged_as}
 use Rattle.access_matrix.specs.There.{judged_there}
 use Rattle.access_matrix.specs.declared.deed.Deed.{Deed}
-use Rattle.access_matrix.specs.declared.deed.Deed.TheVariants.{Delete, Related, Lock, Move, Install, Load}
+use Rattle.access_matrix.specs.declared.deed.Deed.TheVariants.{Delete, Related, Lock}
 use Rattle.access_matrix.proofs.CommandTaken.{command_taken, form_listed, none_before}
 use Rattle.access_matrix.proofs.FormPassed.{passes}
 

@@ -1,6 +1,6 @@
 //! Whether a card accepts a command of a security domain that was just selected.
 
-ghost use Rattle.std.specs.Prelude.{◌≡◌, ◌↔◌, ◌<◌, ℕ, List, None, Some, IsSome, IsTrue, MatchOption};
+ghost use Rattle.std.specs.Prelude.{◌≡◌, ◌↔◌, ℕ, List, None, Some, IsTrue};
 ghost use Rattle.access_matrix.specs.May.{IsSelectable, initialize};
 ghost use Rattle.access_matrix.specs.Passing.{ForSaid, IsUsed};
 ghost use Rattle.access_matrix.specs.There.{judged_there};

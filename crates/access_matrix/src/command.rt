@@ -1,6 +1,6 @@
 //! The commands of deeds, and whether a card accepts them.
 
-ghost use Rattle.std.specs.Prelude.{◌≡◌, ◌↔◌, ℕ, [], ◌∷◌, IsSome, IsTrue};
+ghost use Rattle.std.specs.Prelude.{◌≡◌, ◌↔◌, [], ◌∷◌, IsTrue};
 ghost use Rattle.access_matrix.specs.Commands.{module_for, privileges_for};
 ghost use Rattle.access_matrix.specs.Passing.{ForSaid, IsAccepted, IsUsed, deletion_of};
 ghost use Rattle.access_matrix.specs.declared.deed.Deed.TheVariants as deed;

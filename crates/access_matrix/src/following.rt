@@ -1,6 +1,6 @@
 //! Things of a card in the order of their AIDs.
 
-ghost use Rattle.std.specs.Prelude.{◌≡◌, ◌&&◌, ℕ, IfSome, IfNone, option_copied};
+ghost use Rattle.std.specs.Prelude.{◌&&◌, ℕ, IfSome, IfNone, option_copied};
 ghost use Rattle.std.proofs.lemmas.Cmp.{nat_list_cmp_total, on_total};
 ghost use Rattle.card_types.specs.Aid.{aid_order, same_aid};
 ghost use Rattle.card_types.specs.Search.{is_above};

@@ -3,7 +3,6 @@
 ghost use Rattle.std.specs.Prelude.{◌≡◌, ℕ, List};
 ghost use Rattle.access_matrix.specs.Commands as commands;
 ghost use Rattle.access_matrix.specs.Commands.{IsFreeAid};
-ghost use Rattle.card_types.specs.Aid.{IsAid};
 ghost use Rattle.card_types.specs.Represents.{IsInOrder, Represents};
 ghost use Rattle.card_types.specs.Registry.{Registry};
 

@@ -1,6 +1,6 @@
 //! The next candidate, and the next right.
 
-ghost use Rattle.std.specs.Prelude.{◌≡◌, ℕ, List, None, Some, IfSome, IfNone, option_copied, option_map};
+ghost use Rattle.std.specs.Prelude.{ℕ, List, None, Some, IfSome, IfNone, option_copied, option_map};
 ghost use Rattle.card_types.specs.Represents.{IsInOrder, HasLayout, Represents};
 ghost use Rattle.card_types.specs.Registry.{Registry};
 ghost use Rattle.access_matrix.specs.Next.{HasAllowed, HasCandidate, IsNext, NoneNext, place_order};

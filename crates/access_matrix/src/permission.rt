@@ -1,6 +1,6 @@
 //! Whether a security domain may do a deed.
 
-ghost use Rattle.std.specs.Prelude.{◌≡◌, ◌↔◌, ℕ, List, IsTrue};
+ghost use Rattle.std.specs.Prelude.{◌↔◌, ℕ, List, IsTrue};
 ghost use Rattle.access_matrix.specs.Deeds.{AreUsed, HoldsDomain, deed_of};
 ghost use Rattle.access_matrix.specs.May.{May};
 ghost use Rattle.access_matrix.specs.Passing.{ForSaid, IsAccepted, IsUsed};

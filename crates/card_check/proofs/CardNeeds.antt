@@ -13,7 +13,7 @@ use Rattle.card_types.specs.Aid.{same_aid}
 use Rattle.card_types.specs.KeySets.{HasKeys, IsKeyOf}
 use Rattle.card_types.specs.Privileges.{has, security_domain}
 use Rattle.card_types.specs.Registry as registry
-use Rattle.card_types.specs.Registry.{domain_of, entry_named, file_named, keys_of}
+use Rattle.card_types.specs.Registry.{entry_named, file_named}
 use Rattle.card_types.specs.Represents.{Represents, counter_of, domain_aid, entry_of, file_of, key_of, object_of, used, held}
 use Rattle.card_types.specs.Well.{IsFactoryFile, IsIssuerDomain, IsWellCounter, IsWellFile, IsWellKey, IsWellObject, Well}
 use Rattle.card_types.specs.declared.factory.TheConstants.{ISSUER, FACTORY_FILE}

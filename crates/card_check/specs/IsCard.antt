@@ -1,5 +1,5 @@
 -- Tables that a card may be trusted with, over load pages of 256 bytes.
-use Rattle.std.specs.Prelude.{◌≡◌, ℕ, ◌<◌, ◌≤◌, List, MatchOption, All, length, map, nat_eq, take}
+use Rattle.std.specs.Prelude.{◌≡◌, ℕ, ◌≤◌, List, MatchOption, All, length, map, nat_eq, take}
 use Rattle.std.specs.List.{IsDistinct, concat}
 use Rattle.card_types.specs.Represents.{HasLayout, Represents, used, held}
 use Rattle.card_types.specs.Registry.{Registry}

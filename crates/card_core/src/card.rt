@@ -1,6 +1,6 @@
 //! A card (GlobalPlatform Card Specification 2.3.1, chapter 6).
 
-ghost use Rattle.std.specs.Prelude.{◌≡◌, ◌≤◌, ◌↔◌, ℕ, List, [], ◌∷◌, false, true, None, IfOk, IfErr, IsSome, IsTrue, OnErr, OnOk};
+ghost use Rattle.std.specs.Prelude.{◌≡◌, ◌≤◌, List, [], ◌∷◌, false, true, None, IfOk, IfErr, IsSome, OnErr, OnOk};
 ghost use Rattle.apdu_core.specs.Reply.{status_bytes};
 ghost use Rattle.card_core.specs.Card.{Answers, LeavesEither, CardRepresents};
 ghost use Rattle.card_core.specs.Commits.{MayCommit};

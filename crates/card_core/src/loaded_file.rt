@@ -1,6 +1,6 @@
 //! An Executable Load File that has come is added (GlobalPlatform Card Specification 2.3.1, 9.3.5 and 11.6).
 
-ghost use Rattle.std.specs.Prelude.{◌≡◌, ◌+◌, ◌≤◌, ℕ, List, [], ◌∷◌, IfSome, length, true};
+ghost use Rattle.std.specs.Prelude.{◌≡◌, ◌+◌, ◌≤◌, [], IfSome, length, true};
 ghost use Rattle.card_check.specs.IsCard.{IsInLoadPages, pages_named};
 ghost use Rattle.card_core.specs.Domains.{is_domain_in};
 ghost use Rattle.card_core.specs.Kept.{AreCards};

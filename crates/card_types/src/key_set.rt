@@ -1,12 +1,10 @@
 //! Key sets: in the list of keys, and by the domain and the key version number.
 
-ghost use Rattle.std.specs.Prelude.{◌≡◌, ◌≤◌, ◌↔◌, ◌⊎◌, ℕ, List, true, Some, IsSome, IsTrue, IfSome, IfNone, Contains, length};
+ghost use Rattle.std.specs.Prelude.{◌≡◌, ◌≤◌, ◌↔◌, ◌⊎◌, ℕ, List, true, Some, IsTrue, IfSome, IfNone, length};
 ghost use Rattle.card_types.specs.Represents.{IsInOrder, Represents, domain_aid, keeps_counter, held};
 ghost use Rattle.card_types.specs.KeySets.{HasKey, HasKeys, HoldsKeyOf, IsKeyOf, IsSetOf, NoSetOf, is_key, AreKeysOf, HaveKeyLength};
-ghost use Rattle.card_types.specs.Registry.{Counter, Registry};
-ghost use Rattle.card_types.specs.Well.{Well};
+ghost use Rattle.card_types.specs.Registry.{Registry};
 ghost use Rattle.card_types.specs.declared.limits.TheConstants.{KEYS};
-ghost use Rattle.card_types.specs.declared.tables.Entry.{Entry};
 
 use crate::search::{InSlot, Wants, first_that};
 use crate::tables::{KeyRec, Tables, in_slot};

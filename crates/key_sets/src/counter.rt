@@ -3,7 +3,7 @@
 ghost use Rattle.std.specs.Prelude.{◌≡◌, ◌<◌, ◌≤◌, ℕ, List, IfOk, OnErr};
 ghost use Rattle.card_types.specs.Counters.{HasNextCounter, raised_key};
 ghost use Rattle.card_types.specs.KeySets.{HasKeys};
-ghost use Rattle.card_types.specs.declared.limits.TheConstants.{COUNTER_LIMIT, KEYS};
+ghost use Rattle.card_types.specs.declared.limits.TheConstants.{COUNTER_LIMIT};
 ghost use Rattle.key_sets.specs.Draws.{Draws, IsSpent, Raises};
 
 use arrayvec::ArrayVec;

@@ -1,5 +1,5 @@
 -- What is shown of the form of a command, from which the laws over all commands follow.
-use Rattle.std.proofs.Common.{◌≡◌, ◌⊎◌, ℕ, List, inl}
+use Rattle.std.proofs.Common.{◌≡◌, ◌⊎◌, ℕ, List}
 use Rattle.std.specs.Prelude.{Contains}
 use Rattle.policy_machine.specs.Admission.{Admitted}
 use Rattle.policy_machine.specs.Changes.{IsSameButCounters}

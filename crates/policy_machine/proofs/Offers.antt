@@ -22,8 +22,7 @@ HasNoOffer channel = offer_in (secure_channel_of channel) ≡ None
 
 not_offered : (secure_channel : SecureChannel) → offer_in (offer_passed false secure_channel) ≡ None
 not_offered Nothing = refl
-not_offered (Offered offer) = refl
-not_offered (Secured session) = refl
+not_offered _ = refl
 
 channel_has_none : (channel : Option Channel) → HasNoOffer (channel_passed false channel)
 channel_has_none None = refl

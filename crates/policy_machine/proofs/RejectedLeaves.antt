@@ -23,15 +23,12 @@ module _ (has : Volatile → ℕ → Type 0) (state : State) (bytes : List ℕ) 
 
   leaves_so : (rule : RuleG) (left : Volatile) → is_later (G rule) ≡ true → GeneralFails state bytes rule → GeneralRefusalLeaves state bytes rule left
       → Of bytes (λ command. has left (channel_of command.class))
-  leaves_so G1 left later fails leaves = absurd (false≢true later)
-  leaves_so G2 left later fails leaves = absurd (false≢true later)
-  leaves_so G3 left later fails leaves = absurd (false≢true later)
-  leaves_so G4 left later fails leaves = absurd (false≢true later)
   leaves_so G5 left later fails (command, short, is) = left_as command short left _ is (dropped (channel_of command.class))
   leaves_so G6 left later fails (command, short, inl ends) = left_as command short left _ ends.1 (ended command)
   leaves_so G6 left later fails (command, short, inr other) = left_as command short left _ other.1 (stays command short fails other.0)
   leaves_so G7 left later fails (command, short, is) = left_as command short left _ is (ended command)
   leaves_so G8 left later fails (command, short, is) = left_as command short left _ is (ended command)
+  leaves_so _ left later fails leaves = absurd (false≢true later)
 
   pub rejected_leaves : (outcome : Outcome) (rejected : IsRejected state bytes outcome) → is_later (G rejected.rule) ≡ true
       → Of bytes (λ command. has outcome.state.volatile (channel_of command.class))

@@ -82,9 +82,7 @@ module _ (registry : Registry) (these : List ℕ → Bool) (change : Entry → E
 
   there : (member : Member) → IsMember registry member → IsAtOrAbove registry domain (place_of member) → IsMember (with_entries registry these change) member
   there (AnEntry entry) is at = subst (Contains (map some registry.entries)) (unchanged entry at) (contains_map some registry.entries entry is)
-  there (AFile file) is at = is
-  there (AKey key) is at = is
-  there (AnObject object) is at = is
+  there _ is at = is
 
   back : (member : Member) → IsMember (with_entries registry these change) member → IsAtOrAbove registry domain (place_of member) → IsMember registry member
   back (AnEntry entry) is at =
@@ -93,8 +91,7 @@ module _ (registry : Registry) (these : List ℕ → Bool) (change : Entry → E
       let same = unchanged from.0 (subst (IsAtOrAbove registry domain) (sym aid) at) in
       subst (Contains registry.entries) (sym same ∙ from.2) from.1
   back (AFile file) is at = is
-  back (AKey key) is at = is
-  back (AnObject object) is at = is
+  back _ is at = is
 
   pub entries_leave : LeavesTree registry (with_entries registry these change) domain
   entries_leave = leaves_tree registry (with_entries registry these change) (domains_after_change registry these change keeps) domain there back

@@ -1,6 +1,5 @@
 //! DELETE (GlobalPlatform Card Specification 2.3.1, 11.2): the data field tells which of its forms a command has.
 
-ghost use Rattle.std.specs.Prelude.{ℕ, List};
 ghost use Rattle.policy_machine.specs.declared.instruction.TheConstants.{DELETE};
 ghost use Rattle.policy_rules.specs.Requests.{Parses};
 

@@ -1,6 +1,5 @@
 //! INSTALL (GlobalPlatform Card Specification 2.3.1, 11.5): P1 tells which of its forms a command has.
 
-ghost use Rattle.std.specs.Prelude.{ℕ, List};
 ghost use Rattle.policy_machine.specs.declared.instruction.TheConstants.{INSTALL};
 ghost use Rattle.policy_rules.specs.Requests.{Parses};
 

@@ -1,6 +1,5 @@
 //! LOAD (GlobalPlatform Card Specification 2.3.1, 11.6): its request. How it is judged stands in `content_rules`.
 
-ghost use Rattle.std.specs.Prelude.{ℕ, List};
 ghost use Rattle.policy_machine.specs.declared.instruction.TheConstants.{LOAD};
 ghost use Rattle.policy_rules.specs.Requests.{Parses};
 

@@ -2,7 +2,7 @@
 
 ghost use Rattle.std.specs.Prelude.{◌≡◌, ℕ, List, None, Some, IfOk, IfErr};
 ghost use Rattle.std.proofs.lemmas.Cmp.{nat_list_cmp_total, on_total};
-ghost use Rattle.card_types.specs.Aid.{aid_order, same_aid};
+ghost use Rattle.card_types.specs.Aid.{aid_order};
 ghost use Rattle.card_types.specs.Represents.{IsInOrder, Represents, entry_of, held};
 ghost use Rattle.card_types.specs.Registry.{Registry};
 ghost use Rattle.card_types.specs.declared.factory.TheConstants.{ISSUER};

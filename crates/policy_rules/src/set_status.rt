@@ -1,6 +1,5 @@
 //! SET STATUS (GlobalPlatform Card Specification 2.3.1, 11.10): P1 tells which of its forms a command has.
 
-ghost use Rattle.std.specs.Prelude.{ℕ, List};
 ghost use Rattle.policy_machine.specs.declared.instruction.TheConstants.{SET_STATUS};
 ghost use Rattle.policy_rules.specs.Requests.{Parses};
 

@@ -7,7 +7,7 @@ ghost use Rattle.card_types.specs.Well.{IsObject};
 ghost use Rattle.card_types.specs.declared.limits.TheConstants.{OBJECTS};
 ghost use Rattle.policy_machine.specs.Admission.{Admitted};
 ghost use Rattle.policy_machine.specs.Commands.{Judges};
-ghost use Rattle.policy_machine.specs.DataObjects.{AreObjects, has_tag_in, new_tags};
+ghost use Rattle.policy_machine.specs.DataObjects.{AreObjects, new_tags};
 ghost use Rattle.policy_slots.specs.ObjectsHeld.{has_object_in, is_tagged_in};
 ghost use Rattle.policy_machine.specs.StoreData.{StoreDataField, StoreDataParameters};
 ghost use Rattle.policy_machine.specs.declared.instruction.TheConstants.{STORE_DATA};

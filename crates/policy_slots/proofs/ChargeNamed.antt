@@ -8,7 +8,7 @@ use Rattle.card_types.proofs.FoundNames.{found_file_named}
 use Rattle.card_types.specs.Found.{aid_of}
 use Rattle.card_types.specs.Privileges.{bits_of, security_domain}
 use Rattle.card_types.specs.Registry as registry
-use Rattle.card_types.specs.Registry.{domain_of, entry_named, file_named, is_domain}
+use Rattle.card_types.specs.Registry.{domain_of, entry_named, is_domain}
 use Rattle.card_types.specs.Represents.{Represents, domain_aid, domain_slot, entry_of, file_of, held}
 use Rattle.card_types.specs.Well.{IsDomainNamed, Well}
 use Rattle.card_types.specs.declared.found.Found.TheVariants as found

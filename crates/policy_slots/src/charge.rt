@@ -1,6 +1,6 @@
 //! Things and security domains by their AIDs, and what is above what and in whose charge, by slots.
 
-ghost use Rattle.std.specs.Prelude.{◌≡◌, ◌↔◌, ◌⊎◌, ℕ, List, None, Some, IfNone, IfSome, IsSome, IsTrue};
+ghost use Rattle.std.specs.Prelude.{◌≡◌, ◌↔◌, ℕ, List, None, Some, IfNone, IfSome, IsSome, IsTrue};
 ghost use Rattle.card_types.specs.Found.{aid_of};
 ghost use Rattle.card_types.specs.Represents.{IsInOrder, Represents, domain_aid, file_of, held};
 ghost use Rattle.card_types.specs.Registry.{Registry, entry_named};

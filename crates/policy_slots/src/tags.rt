@@ -1,6 +1,6 @@
 //! Tags of data objects (ISO/IEC 8825-1).
 
-ghost use Rattle.std.specs.Prelude.{◌≡◌, ℕ, List};
+ghost use Rattle.std.specs.Prelude.{◌≡◌, List};
 ghost use Rattle.bertlv.specs.Spelling.{AreElements, Element};
 ghost use Rattle.policy_machine.specs.DataObjects.{has_tag_in};
 

@@ -1,6 +1,6 @@
 //! All slots of one kind.
 
-ghost use Rattle.std.specs.Prelude.{◌≡◌, ◌≢◌, ◌⊎◌, ◌+◌, ◌*◌, ◌/◌, ◌%◌, ◌<◌, ◌≤◌, ℕ, List, [], Option, true, length, slice_get, All, IsSome, IfSome, IfOk, OnOk, OnErr, IfErr};
+ghost use Rattle.std.specs.Prelude.{◌≡◌, ◌≢◌, ◌⊎◌, ◌+◌, ◌*◌, ◌/◌, ◌%◌, ◌<◌, ◌≤◌, ℕ, [], Option, true, length, slice_get, All, IsSome, IfSome, IfOk, OnOk, OnErr, IfErr};
 ghost use Rattle.card_types.specs.Represents.{used, held};
 ghost use Rattle.faults.specs.Faults.{HasCause, Rose};
 ghost use Rattle.flash_core.specs.declared.page.Page.{Page as PageOf};

@@ -1,6 +1,6 @@
 //! The layouts of store pages.
 
-ghost use Rattle.std.specs.Prelude.{◌≡◌, ◌↔◌, IfNone, IfSome, IsTrue, length};
+ghost use Rattle.std.specs.Prelude.{◌≡◌, ◌↔◌, IfNone, IfSome, IsTrue};
 ghost use Rattle.rec_store.specs.StoreLayout.{FitsLayout, IsShort, layout_code};
 ghost use Rattle.std.specs.Prelude.{All};
 ghost use Rattle.card_types.specs.Represents.{used};

@@ -1,6 +1,6 @@
 //! The superblock.
 
-ghost use Rattle.std.specs.Prelude.{◌≡◌, IfOk, OnErr};
+ghost use Rattle.std.specs.Prelude.{IfOk, OnErr};
 ghost use Rattle.card_types.specs.declared.card_life.CardLife.{CardLife as Life};
 ghost use Rattle.rec_store.specs.Superblock.{IsSuperblock};
 ghost use Rattle.rec_store.specs.declared.store_layout.Layout.{Layout as LayoutOf};

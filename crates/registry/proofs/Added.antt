@@ -8,7 +8,6 @@ use Rattle.card_types.specs.RegistryChange.{IsChanged, IsEntryAdded, IsFileAdded
 use Rattle.card_types.specs.Search.{IsFirstFree, NoneFree}
 use Rattle.card_types.specs.Found.{aid_of}
 use Rattle.card_types.specs.Registry as registry
-use Rattle.card_types.specs.Registry.{entry_named, file_named}
 use Rattle.card_types.specs.Represents.{Represents, entry_of, file_of, held}
 use Rattle.card_types.specs.Well.{Well}
 use Rattle.card_types.specs.declared.found.Found.{Found}

@@ -1,5 +1,5 @@
 -- Words spell one key, or one group of keys.
-use Rattle.std.proofs.Common.{◌≡◌, ◌≤◌, ◌*◌, ℕ, List, [], ◌∷◌, length, refl, ap, sym, ◌∙◌, arith, slice_index}
+use Rattle.std.proofs.Common.{◌≡◌, ◌≤◌, ◌*◌, ℕ, List, [], ◌∷◌, length, refl, ap, sym, arith, slice_index}
 use Rattle.std.specs.Prelude.{codes}
 use Rattle.script_lines.proofs.OneValue.{one_byte, one_some, some_digits}
 use Rattle.script_lines.specs.Keys.{SpellKeys, SpellTrio, SpellsKey}
@@ -41,8 +41,7 @@ key_digits word (Aes256 key) x = some_digits 32 word key x
 
 least_size : {A B C : Type 0} (x : OfSize A B C) → 16 ≤ size_of x
 least_size (Aes128 a) = omega arith
-least_size (Aes192 b) = omega arith
-least_size (Aes256 c) = omega arith
+least_size _ = omega arith
 
 pub one_key : (word : List ℕ) (a b : OfSize (List ℕ) (List ℕ) (List ℕ)) → SpellsKey word a → SpellsKey word b → a ≡ b
 unfolding SpellsKey

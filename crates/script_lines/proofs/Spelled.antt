@@ -14,7 +14,7 @@ use Rattle.hex.proofs.HexLemmas.{decode_of-encode_lower, decode_of-ok}
 use Rattle.hex.specs.Hex.{IsBytes, decode_of, encode_with, is_hex_digit}
 use Rattle.card_types.specs.Level.{code_of}
 use Rattle.card_types.specs.declared.level.Level.{Level}
-use Rattle.card_types.specs.declared.level.Level.TheVariants.{Mac, EncMac, MacR, EncMacR, Full}
+use Rattle.card_types.specs.declared.level.Level.TheVariants.{Mac}
 use Rattle.script_lines.proofs.Split.{one_word}
 use Rattle.script_lines.specs.Exchange.{SayAfterVerb, SaysExchange, verb_of}
 use Rattle.script_lines.specs.Verb.{word_of}
@@ -87,10 +87,7 @@ one_digits byte small = decode_of-encode_lower (byte ∷ []) (cons_bytes byte []
 
 code_small : (level : Level) → code_of level < 256
 code_small Mac = omega arith
-code_small EncMac = omega arith
-code_small MacR = omega arith
-code_small EncMacR = omega arith
-code_small Full = omega arith
+code_small _ = omega arith
 
 pub level_digits : (byte : ℕ) (level : Level) → byte ≡ code_of level → decode_of (digits_of byte) ≡ Ok (code_of level ∷ [])
 level_digits byte level is = ap (λ b. decode_of (digits_of b)) is ∙ one_digits (code_of level) (code_small level)

@@ -8,7 +8,7 @@ use Rattle.script_lines.specs.Exchange.{SaysExchange, verb_of}
 use Rattle.script_lines.specs.Verb.{word_of}
 use Rattle.script_lines.specs.Words.{words_of}
 use Rattle.script_lines.specs.declared.exchange.Exchange as the_type
-use Rattle.script_lines.specs.declared.exchange.Exchange.TheVariants.{Select, Raw, Open, Send, Bad, Install, Selectable, Extradite, Load, Delete, PutKey, Store, Life, List as Listed, More}
+use Rattle.script_lines.specs.declared.exchange.Exchange.TheVariants.{Select, Raw, Bad, Install, Selectable, Extradite, Load, Delete, PutKey, Store}
 use Rattle.script_lines.specs.declared.load_file.LoadFile.{LoadFile}
 
 -- how long words are, each with one byte after it
@@ -42,19 +42,14 @@ at_least n = omega arith
 verb_long : (e : the_type.Exchange) → 3 ≤ length (word_of (verb_of e))
 verb_long (Select aid) = at_least 3
 verb_long (Raw bytes) = at_least 0
-verb_long (Open opening) = at_least 1
-verb_long (Send command) = at_least 1
 verb_long (Bad command) = at_least 0
 verb_long (Install installation) = at_least 4
 verb_long (Selectable aid) = at_least 7
 verb_long (Extradite extradition) = at_least 6
-verb_long (Load file) = at_least 1
 verb_long (Delete deletion) = at_least 3
 verb_long (PutKey putting) = at_least 3
 verb_long (Store field) = at_least 2
-verb_long (Life change) = at_least 1
-verb_long (Listed listing) = at_least 1
-verb_long (More listing) = at_least 1
+verb_long _ = at_least 1
 
 -- a line that loads a file
 pub load_wide : (words : List (List ℕ)) (file : LoadFile) → SaysExchange words (Load file) → 253 + 60 ≤ 60 * wide words
@@ -62,9 +57,7 @@ load_wide (verb ∷ file ∷ domain ∷ hash ∷ content) l x =
     let long : length verb ≡ 4 = ap (λ (word : List ℕ). length word) x.0 in
     omega (arith, long)
 load_wide [] l x = absurd x
-load_wide (a ∷ []) l x = absurd x.1
-load_wide (a ∷ b ∷ []) l x = absurd x.1
-load_wide (a ∷ b ∷ c ∷ []) l x = absurd x.1
+load_wide _ l x = absurd x.1
 
 -- any line that sends
 pub other_wide : (words : List (List ℕ)) (e : the_type.Exchange) → SaysExchange words e → 2 + 60 ≤ 60 * wide words

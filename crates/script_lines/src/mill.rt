@@ -1,7 +1,7 @@
 //! The workload: rounds of lines that ChaCha20 chooses (this profile's own).
 
 ghost use Rattle.std.specs.Prelude.{◌≡◌, ◌∷◌, ◌↔◌, [], IsTrue, MatchOption, false};
-ghost use Rattle.script_lines.specs.Mill.{after, after_round, generator, round_of, to_come, word, workload};
+ghost use Rattle.script_lines.specs.Mill.{after, after_round, round_of, to_come, word, workload};
 
 use crate::round::{MillLine, Round};
 use arrayvec::ArrayVec;

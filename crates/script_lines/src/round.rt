@@ -1,10 +1,9 @@
 //! The lines of a round of the workload (this profile's own).
 
-ghost use Rattle.std.specs.Prelude.{◌≡◌, ◌+◌, ◌*◌, ◌<◌, ◌≤◌, ◌++◌, [], ◌∷◌, length, decimal, codes, slice_get};
-ghost use Rattle.std.specs.Int.{w32, w64, to_be_bytes};
+ghost use Rattle.std.specs.Prelude.{◌≡◌, ◌+◌, ◌<◌, ◌≤◌, ◌++◌, [], decimal, codes, slice_get};
+ghost use Rattle.std.specs.Int.{to_be_bytes};
 ghost use Rattle.std.specs.Option.{option_map};
 ghost use Rattle.arrayvec.specs.ArrayVec.{array_vec_len};
-ghost use Rattle.hex.specs.Hex.{encode_lower};
 ghost use Rattle.script_lines.specs.Round.{application_of, challenge_of, digits_of, file_of, lines_of};
 
 use arrayvec::ArrayVec;

@@ -1,6 +1,6 @@
 //! The values of words in hexadecimal digits (this profile's own).
 
-ghost use Rattle.std.specs.Prelude.{◌≡◌, ℕ, List, length, MatchOption};
+ghost use Rattle.std.specs.Prelude.{ℕ, List, length, MatchOption};
 ghost use Rattle.script_lines.specs.Words.{Reads, SpellsAid, SpellsByte, SpellsLevel, SpellsSome, SpellsStatus, SpellsUpTo};
 
 use apdu_core::Status;

@@ -2,7 +2,7 @@
 use Rattle.std.proofs.Common.{◌≡◌, ◌⊎◌, ℕ, refl, inl, inr}
 use Rattle.std.specs.Prelude.{◌↔◌, List, Result, Err}
 use Rattle.script_tool.specs.HostLines.{is_difference}
-use Rattle.script_tool.specs.Printed.{kind_of, Printed, Nothing, Reply, Opened, Cryptogram, Said, Differs}
+use Rattle.script_tool.specs.Printed.{kind_of, Printed, Nothing}
 use Rattle.script_tool.specs.Kinds.{is_difference_kind}
 use Rattle.script_lines.specs.Line.{HasNoForm, SaysLine}
 use Rattle.script_lines.specs.declared.line.ScriptLine.{ScriptLine}
@@ -13,11 +13,7 @@ use Rattle.script_tool.specs.declared.played.StepStop.TheVariants.{Form}
 -- a difference is of the kind of one
 pub differs_as : (printed : Printed) → is_difference_kind (kind_of printed) ≡ is_difference printed
 differs_as Nothing = refl
-differs_as (Reply body status) = refl
-differs_as (Opened counter status) = refl
-differs_as (Cryptogram counter) = refl
-differs_as (Said word) = refl
-differs_as (Differs want got) = refl
+differs_as _ = refl
 
 -- when the form of a line is refused
 abbrev pub RefusesForm : Result the_played.Played StepStop → ℕ → List ℕ → Type 0

@@ -16,7 +16,7 @@ use Rattle.script_tool.specs.Kept.{RepresentsHost}
 use Rattle.script_lines.specs.Load.{beginning_load, loading}
 use Rattle.script_tool.specs.Loading.{block_count, loading_all, loading_blocks, playing_load}
 use Rattle.script_tool.specs.Played.{Continues, ContinuesWith, IsBroken, IsPlayed, Leads, Plays}
-use Rattle.script_tool.specs.Printed.{Printed, Nothing, Reply, Opened, Cryptogram, Said, Differs, status_printed}
+use Rattle.script_tool.specs.Printed.{Printed, Reply, Said, status_printed}
 use Rattle.script_tool.specs.Talk.{Ends, Talk}
 use Rattle.script_tool.specs.declared.host_state.HostState.{HostState}
 use Rattle.script_tool.specs.declared.link.CardLink.{Ghosts as CardLink}
@@ -61,20 +61,14 @@ stopped link old new talk size left number bytes kept (Reply body status) not at
   stands = at.2;
 }
 stopped link old new talk size left number bytes kept (Said word) not at = at
-stopped link old new talk size left number bytes kept Nothing not at = absurd at
-stopped link old new talk size left number bytes kept (Opened counter status) not at = absurd at
-stopped link old new talk size left number bytes kept (Cryptogram counter) not at = absurd at
-stopped link old new talk size left number bytes kept (Differs want got) not at = absurd at
+stopped link old new talk size left number bytes kept _ not at = absurd at
 
 -- the last block's reply ends the line
 pub all_sent : {L : Type 0} (link : CardLink L) (old new : L) (talk : Talk) (size number : ℕ) (bytes : List ℕ) (kept : HostState) (printed : Printed)
     → AtBlock link old new talk size 0 number bytes kept printed → IsPlayed link old new talk printed kept
 all_sent link old new talk size number bytes kept (Reply body status) at = record { host = at.0; leads = at.1; stands = at.2 }
 all_sent link old new talk size number bytes kept (Said word) at = at
-all_sent link old new talk size number bytes kept Nothing at = absurd at
-all_sent link old new talk size number bytes kept (Opened counter status) at = absurd at
-all_sent link old new talk size number bytes kept (Cryptogram counter) at = absurd at
-all_sent link old new talk size number bytes kept (Differs want got) at = absurd at
+all_sent link old new talk size number bytes kept _ at = absurd at
 
 -- a command is sent in the session
 abbrev pub Sent : {L : Type 0} → CardLink L → L → L → Apdu → HostState → HostState → Result Printout LinkFailed → Type 0
@@ -94,10 +88,7 @@ one_block link a b c talk size left number bytes kept after (Reply body status) 
     let leads : Leads link a b talk mid = subst (λ (s : ℕ). Leads link a b talk (loading_blocks size (suc left) number bytes at.0 body s)) is at.1 in
     continues_on link a b c talk mid rest after result leads (sends at.0 rest at.2)
 one_block link a b c talk size left number bytes kept after (Said word) result done at sends = absurd (cc)
-one_block link a b c talk size left number bytes kept after Nothing result done at sends = absurd at
-one_block link a b c talk size left number bytes kept after (Opened counter status) result done at sends = absurd at
-one_block link a b c talk size left number bytes kept after (Cryptogram counter) result done at sends = absurd at
-one_block link a b c talk size left number bytes kept after (Differs want got) result done at sends = absurd at
+one_block link a b c talk size left number bytes kept after _ result done at sends = absurd at
 
 -- the next block of those that a list makes
 pub next_block : {L : Type 0} (link : CardLink L) (a b c : L) (talk : Talk) (size count number : ℕ) (bytes : List ℕ) (kept after : HostState) (printed : Printed)

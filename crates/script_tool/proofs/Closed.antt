@@ -29,7 +29,7 @@ use Rattle.script_lines.specs.Send.{plain_of}
 use Rattle.script_lines.specs.Store.{storing}
 use Rattle.script_tool.specs.Talk.{Ends, Plain, Refused, Taken, Talk}
 use Rattle.script_lines.specs.declared.channel.Channel.{Channel}
-use Rattle.script_lines.specs.declared.channel.Channel.TheVariants.{Basic, First, Second, Third}
+use Rattle.script_lines.specs.declared.channel.Channel.TheVariants.{Basic}
 use Rattle.script_lines.specs.declared.control.Control as the_control
 use Rattle.script_lines.specs.declared.control.Control.TheVariants as control
 use Rattle.script_lines.specs.declared.exchange.Exchange as the_exchange
@@ -41,9 +41,7 @@ use Rattle.script_tool.specs.declared.word.Word.TheVariants.{NoSession, Short, T
 
 none_there : (channel : Channel) (all : Sessions) → session_of channel (with_session channel None all) ≡ None
 none_there Basic all = refl
-none_there First all = refl
-none_there Second all = refl
-none_there Third all = refl
+none_there _ all = refl
 
 -- what goes on by each reply that was opened
 abbrev RestEnds : Rest → Type 0
@@ -134,10 +132,7 @@ exchange_ends host (More listing) = sending_ends false host (listing_command 0x0
 
 control_ends : (host : Host) (c : the_control.Control) → EndsAtRefusals (playing_control host c)
 control_ends host control.Reset = tt
-control_ends host (control.Channel channel) = tt
-control_ends host (control.Keys keys) = tt
-control_ends host (control.Tokens tokens) = tt
-control_ends host (control.Want status) = tt
+control_ends host _ = tt
 
 pub refusals_end : RefusalsEnd
 refusals_end host line.Nothing = tt
@@ -153,15 +148,4 @@ pub closed_is_silent : ClosedIsSilent
 closed_is_silent host (Select aid) none is = cc is
 closed_is_silent host (Raw bytes) none is = cc is
 closed_is_silent host (Open opening) none is = cc is
-closed_is_silent host (Send command) none is = nothing_sent host _ none
-closed_is_silent host (Bad command) none is = nothing_sent host _ none
-closed_is_silent host (Install installation) none is = nothing_sent host _ none
-closed_is_silent host (Selectable aid) none is = nothing_sent host _ none
-closed_is_silent host (Extradite extradition) none is = nothing_sent host _ none
-closed_is_silent host (Load file) none is = nothing_sent host _ none
-closed_is_silent host (Delete deletion) none is = nothing_sent host _ none
-closed_is_silent host (PutKey putting) none is = nothing_sent host _ none
-closed_is_silent host (Store field) none is = nothing_sent host _ none
-closed_is_silent host (Life change) none is = nothing_sent host _ none
-closed_is_silent host (Listed listing) none is = nothing_sent host _ none
-closed_is_silent host (More listing) none is = nothing_sent host _ none
+closed_is_silent host _ none is = nothing_sent host _ none

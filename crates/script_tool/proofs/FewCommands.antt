@@ -58,10 +58,7 @@ most_exchange host (More listing) fits = most_sending false host (listing_comman
 
 most_control : (host : Host) (c : the_control.Control) → SendsAtMost (playing_control host c) 0
 most_control host control.Reset = tt
-most_control host (control.Channel channel) = tt
-most_control host (control.Keys keys) = tt
-most_control host (control.Tokens tokens) = tt
-most_control host (control.Want status) = tt
+most_control host _ = tt
 
 exchange_wide : (words : List (List ℕ)) (e : the_type.Exchange) → SaysExchange words e → most_of e + 60 ≤ 60 * wide words
 exchange_wide words (Load file) x = load_wide words file x

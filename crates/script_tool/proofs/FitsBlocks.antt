@@ -30,9 +30,7 @@ content_fits (a ∷ b ∷ c ∷ d ∷ more) (Filled f) x = absurd x
 load_fits : (words : List (List ℕ)) (l : LoadFile) → SaysExchange words (exchange.Load l) → length (content_bytes l.content) ≤ 60_000
 load_fits (verb ∷ file ∷ domain ∷ hash ∷ content) l x = content_fits content l.content x.1.3
 load_fits [] l x = absurd x
-load_fits (a ∷ []) l x = absurd x.1
-load_fits (a ∷ b ∷ []) l x = absurd x.1
-load_fits (a ∷ b ∷ c ∷ []) l x = absurd x.1
+load_fits _ l x = absurd x.1
 
 exchange_fits : (words : List (List ℕ)) (e : the_type.Exchange) → SaysExchange words e → FitsBlocks e
 exchange_fits words (exchange.Load file) x = load_fits words file x

@@ -11,9 +11,7 @@ use Rattle.script_tool.specs.declared.host_state.HostState.{HostState}
 
 twice : (channel : Channel) (a b : Option Session) (all : Sessions) → with_session channel a (with_session channel b all) ≡ with_session channel a all
 twice Basic a b all = refl
-twice First a b all = refl
-twice Second a b all = refl
-twice Third a b all = refl
+twice _ a b all = refl
 
 pub own_twice : (a b : Option Session) (host : Host) → with_own a (with_own b host) ≡ with_own a host
 own_twice a b host = ap (λ (all : Sessions). with_sessions all host) (twice host.channel a b host.sessions)
@@ -59,9 +57,7 @@ own_kept kept host r =
 
 put_gives : (channel : Channel) (session : Option Session) (all : Sessions) → session_of channel (with_session channel session all) ≡ session
 put_gives Basic session all = refl
-put_gives First session all = refl
-put_gives Second session all = refl
-put_gives Third session all = refl
+put_gives _ session all = refl
 
 -- where the host has this session on its channel, what is kept there is it
 pub own_there : (kept : HostState) (whole : Host) (session : Session) → RepresentsHost kept (with_own (Some session) whole)

@@ -45,10 +45,7 @@ pub others_played : {L : Type 0} (link : CardLink L) (old new : L) (talk : Talk)
     → ContinuesWith link old new talk rest kept (printed_of one) → IsPlayed link old new talk (printed_of one) kept
 others_played link old new talk rest kept (printout.Reply field status) other x = absurd (other field status refl)
 others_played link old new talk rest kept (printout.Said word) other x = x
-others_played link old new talk rest kept printout.Nothing other x = absurd x
-others_played link old new talk rest kept (printout.Opened counter status) other x = absurd x
-others_played link old new talk rest kept (printout.Cryptogram counter) other x = absurd x
-others_played link old new talk rest kept (printout.Differs want got) other x = absurd x
+others_played link old new talk rest kept _ other x = absurd x
 
 -- EXTERNAL AUTHENTICATE was answered by 9000, and the session is put
 pub accepted_played : {L : Type 0} (link : CardLink L) (old new : L) (talk : Talk) (o : Opening) (offer : Offer) (counter body : List ℕ) (status : ℕ)

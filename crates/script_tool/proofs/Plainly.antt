@@ -10,13 +10,13 @@ use Rattle.script_tool.specs.InSession.{printing}
 use Rattle.script_tool.specs.Kept.{RepresentsHost, printed_of}
 use Rattle.script_tool.specs.Link.{Conveys}
 use Rattle.script_tool.specs.Played.{Continues, ContinuesWith, IsPlayed, IsRead, Leads, Plays}
-use Rattle.script_tool.specs.Printed.{Printed, Nothing, Reply, Opened, Cryptogram, Said, Differs, status_printed}
+use Rattle.script_tool.specs.Printed.{Printed, Reply, Said, status_printed}
 use Rattle.script_tool.specs.Talk.{Answered, Ends, Goes, Talk}
 use Rattle.script_tool.specs.declared.host_state.HostState.{HostState}
 use Rattle.script_tool.specs.declared.link.CardLink.{Ghosts as CardLink}
 use Rattle.script_tool.specs.declared.link.LinkFailed.{LinkFailed}
 use Rattle.script_tool.specs.declared.printout.Printout.{Printout}
-use Rattle.script_tool.specs.declared.word.Word.TheVariants.{NoSession, TooLong, Short, Mac, Padding}
+use Rattle.script_tool.specs.declared.word.Word.TheVariants.{NoSession, Short}
 
 -- one command, after whose reply the talk is another
 answered : {L : Type 0} (link : CardLink L) (old new : L) (whole : Host) (bytes reply : List ℕ) (rest : Host → List ℕ → ℕ → Talk) (left : Talk)
@@ -40,22 +40,13 @@ plain_continues link old new whole bytes reply rest kept (Said Short) conveyed r
     let read : reading whole reply rest ≡ Ends (Said Short) whole = rw (e) refl in
     record { host = whole; leads = answered link old new whole bytes reply rest (Ends (Said Short) whole) conveyed read; stands = represents }
 plain_continues link old new whole bytes reply rest kept (Said NoSession) conveyed represents is = absurd is
-plain_continues link old new whole bytes reply rest kept (Said TooLong) conveyed represents is = absurd is
-plain_continues link old new whole bytes reply rest kept (Said Mac) conveyed represents is = absurd is
-plain_continues link old new whole bytes reply rest kept (Said Padding) conveyed represents is = absurd is
-plain_continues link old new whole bytes reply rest kept Nothing conveyed represents is = absurd is
-plain_continues link old new whole bytes reply rest kept (Opened counter status) conveyed represents is = absurd is
-plain_continues link old new whole bytes reply rest kept (Cryptogram counter) conveyed represents is = absurd is
-plain_continues link old new whole bytes reply rest kept (Differs want got) conveyed represents is = absurd is
+plain_continues link old new whole bytes reply rest kept _ conveyed represents is = absurd is
 
 prints : {L : Type 0} (link : CardLink L) (old new : L) (talk : Talk) (kept : HostState) (printed : Printed) → ContinuesWith link old new talk printing kept printed
     → IsPlayed link old new talk printed kept
 prints link old new talk kept (Reply body status) x = record { host = x.0; leads = x.1; stands = x.2 }
 prints link old new talk kept (Said word) x = x
-prints link old new talk kept Nothing x = absurd x
-prints link old new talk kept (Opened counter status) x = absurd x
-prints link old new talk kept (Cryptogram counter) x = absurd x
-prints link old new talk kept (Differs want got) x = absurd x
+prints link old new talk kept _ x = absurd x
 
 -- a line that prints the reply to its one command
 pub continues_plays : {L : Type 0} (link : CardLink L) (old new : L) (talk : Talk) (kept : HostState) (result : Result Printout LinkFailed)
@@ -75,7 +66,4 @@ select_played link old new talk kept kept' (Reply body status) x y = record {
   stands = y x.0 x.2;
 }
 select_played link old new talk kept kept' (Said word) x y = subst (λ (k : HostState). IsPlayed link old new talk (Said word) k) (sym y) x
-select_played link old new talk kept kept' Nothing x y = absurd x
-select_played link old new talk kept kept' (Opened counter status) x y = absurd x
-select_played link old new talk kept kept' (Cryptogram counter) x y = absurd x
-select_played link old new talk kept kept' (Differs want got) x y = absurd x
+select_played link old new talk kept kept' _ x y = absurd x

@@ -5,7 +5,7 @@ use Rattle.script_tool.proofs.TalkRules.{goes_nothing, goes_on}
 use Rattle.script_tool.specs.Host.{Host}
 use Rattle.script_tool.specs.Kept.{RepresentsHost, printed_of}
 use Rattle.script_tool.specs.Played.{Continues, ContinuesWith, IsBroken, IsPlayed, Leads}
-use Rattle.script_tool.specs.Printed.{Printed, Nothing, Reply, Opened, Cryptogram, Said, Differs}
+use Rattle.script_tool.specs.Printed.{Printed, Reply, Said}
 use Rattle.script_tool.specs.Talk.{Ends, Sends, Talk}
 use Rattle.script_tool.specs.declared.host_state.HostState.{HostState}
 use Rattle.script_tool.specs.declared.link.CardLink.{Ghosts as CardLink}
@@ -48,10 +48,7 @@ continues_with_on : {L : Type 0} (link : CardLink L) (a b c : L) (talk mid : Tal
     → Leads link a b talk mid → ContinuesWith link b c mid rest kept printed → ContinuesWith link a c talk rest kept printed
 continues_with_on link a b c talk mid rest kept (Reply body status) x y = (y.0, leads_on link a b c talk mid (rest y.0 body status) x y.1, y.2)
 continues_with_on link a b c talk mid rest kept (Said word) x y = played_on link a b c talk mid (Said word) kept x y
-continues_with_on link a b c talk mid rest kept Nothing x y = y
-continues_with_on link a b c talk mid rest kept (Opened counter status) x y = y
-continues_with_on link a b c talk mid rest kept (Cryptogram counter) x y = y
-continues_with_on link a b c talk mid rest kept (Differs want got) x y = y
+continues_with_on link a b c talk mid rest kept _ x y = y
 
 pub continues_on : {L : Type 0} (link : CardLink L) (a b c : L) (talk mid : Talk) (rest : Host → List ℕ → ℕ → Talk) (kept : HostState)
     (result : Result Printout LinkFailed) → Leads link a b talk mid → Continues link b c mid rest kept result → Continues link a c talk rest kept result

@@ -3,10 +3,8 @@ use Rattle.std.proofs.Common.{List, [], ◌∷◌, ◌++◌, refl, sym, subst, i
 use Rattle.script_tool.specs.Talk.{Talk, Ends, Resets, Sends, Takes, Event, Reset, Answered, Goes}
 
 pub goes_nothing : (talk : Talk) → Goes talk [] talk
-goes_nothing (Ends printed host) = refl
-goes_nothing (Resets rest) = refl
-goes_nothing (Sends bytes rest) = refl
 goes_nothing (Takes session reply rest) = inl (refl, refl)
+goes_nothing _ = refl
 
 pub goes_on : (a : Talk) (events more : List Event) (b c : Talk) → Goes a events b → Goes b more c → Goes a (events ++ more) c
 goes_on (Ends printed host) [] more b c x y = subst (λ t. Goes t more c) x y

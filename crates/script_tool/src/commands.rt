@@ -1,6 +1,6 @@
 //! The commands that lines send in the session of the channel (GlobalPlatform Amendment D, 6.2).
 
-ghost use Rattle.std.specs.Prelude.{◌≡◌, ℕ, true, false, OnOk};
+ghost use Rattle.std.specs.Prelude.{◌≡◌, true, false, OnOk};
 ghost use Rattle.apdu_core.specs.Apdu.{Apdu};
 ghost use Rattle.faults.specs.Faults.{HasCause};
 ghost use Rattle.script_lines.specs.Delete.{deleting};

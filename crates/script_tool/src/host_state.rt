@@ -1,6 +1,5 @@
 //! What a host has, between two lines (this profile's own).
 
-ghost use Rattle.std.specs.Prelude.{◌≡◌};
 ghost use Rattle.script_tool.specs.Host.{Host, after_reset, first_host};
 ghost use Rattle.script_tool.specs.Kept.{RepresentsHost};
 

@@ -1,7 +1,6 @@
 //! Executable Load Files, loaded block by block (GlobalPlatform Card Specification 2.3.1, 11.5.2.3.1, 11.6).
 
 ghost use Rattle.std.specs.Prelude.{◌≡◌, ◌↔◌, ◌≤◌, Some, true, length, IsTrue, OnOk};
-ghost use Rattle.apdu_core.specs.Apdu.{apdu_of};
 ghost use Rattle.faults.specs.Faults.{HasCause};
 ghost use Rattle.script_lines.specs.Load as standard;
 ghost use Rattle.script_lines.specs.Load.{content_bytes};

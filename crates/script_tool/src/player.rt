@@ -1,7 +1,7 @@
 //! A host that plays the lines of a script (this profile's own).
 
-ghost use Rattle.std.specs.Prelude.{◌≡◌, ◌≤◌, ◌↔◌, ◌⊎◌, ℕ, length, true, OnOk};
-ghost use Rattle.faults.specs.Faults.{HasCause, Rose};
+ghost use Rattle.std.specs.Prelude.{◌≡◌, ◌≤◌, ◌↔◌, ◌⊎◌, ℕ, true, OnOk};
+ghost use Rattle.faults.specs.Faults.{Rose};
 ghost use Rattle.script_lines.specs.Line.{HasNoForm, SaysLine};
 ghost use Rattle.script_lines.specs.declared.line.ScriptLine.{ScriptLine};
 ghost use Rattle.script_tool.specs.Host.{Host, first_host};

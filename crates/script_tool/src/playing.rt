@@ -1,15 +1,11 @@
 //! What is done with a line that has a form (this profile's own).
 
 ghost use Rattle.std.specs.Prelude.{◌≡◌, ℕ, List, true, false, OnOk};
-ghost use Rattle.apdu_core.specs.Apdu.{Apdu};
 ghost use Rattle.faults.specs.Faults.{HasCause};
 ghost use Rattle.script_lines.specs.Line.{SaysLine};
-ghost use Rattle.script_lines.specs.Send.{plain_of};
-ghost use Rattle.script_lines.specs.Store.{storing};
 ghost use Rattle.script_tool.specs.Host.{Host};
-ghost use Rattle.script_tool.specs.InSession.{sending};
 ghost use Rattle.script_tool.specs.Kept.{RepresentsHost, printed_of};
-ghost use Rattle.script_tool.specs.Play.{FitsBlocks, playing, playing_control, playing_exchange, playing_put_key, wanting};
+ghost use Rattle.script_tool.specs.Play.{FitsBlocks, playing, playing_control, playing_exchange, wanting};
 ghost use Rattle.script_tool.specs.Played.{IsPlayed, Plays};
 
 use crate::commands::{Listed, Selectable, put_key, send_made, send_one, store};

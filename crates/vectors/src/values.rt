@@ -1,7 +1,6 @@
 //! Values of the registry: identifiers, privileges and codes, and how things are found.
 
-ghost use Rattle.std.specs.Prelude.{◌≡◌, ◌≤◌, vec_len};
-ghost use Rattle.card_types.specs.Represents.{IsInOrder};
+ghost use Rattle.std.specs.Prelude.{◌≡◌, vec_len};
 ghost use Rattle.card_types.specs.declared.limits.TheConstants.{ENTRIES, FILES};
 
 use bitflags::Flags;

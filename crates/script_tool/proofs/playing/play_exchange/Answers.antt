@@ -1,7 +1,7 @@
 use Rattle.script_tool.specs.Play.{playing_exchange}
 use Rattle.script_tool.specs.Played.{Plays}
 use Rattle.script_lines.specs.Send.{plain_of}
-use Rattle.std.proofs.Common.{subst, sym, ap, ◌∙◌, refl}
+use Rattle.std.proofs.Common.{subst, sym, refl}
 use Rattle.script_lines.specs.declared.exchange.Exchange.{Exchange}
 use Rattle.script_tool.proofs.playing.play_exchange.Goals as goal
 

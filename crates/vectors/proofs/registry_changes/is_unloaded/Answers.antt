@@ -1,4 +1,4 @@
-use Rattle.std.proofs.Common.{◌≡◌, ◌==◌, List, Option, ap, ◌∙◌}
+use Rattle.std.proofs.Common.{◌==◌, List, Option, ap, ◌∙◌}
 use Rattle.std.proofs.lemmas.Bool.{eq-eqb}
 use Rattle.card_types.specs.Search.{NoneFits}
 use Rattle.card_types.specs.Represents.{held}

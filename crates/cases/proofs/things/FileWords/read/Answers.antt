@@ -1,5 +1,5 @@
 use Rattle.std.proofs.Common.{◌≡◌, ◌∷◌, ap, refl, subst, sym, ◌∙◌}
-use Rattle.std.specs.Prelude.{ℕ, List, codes, decimal}
+use Rattle.std.specs.Prelude.{codes}
 use Rattle.cases.specs.Things.{SaysFile}
 use Rattle.cases.specs.declared.things.FileWords.{FileWords}
 use Rattle.script_tool.specs.Words.{left}

@@ -1,4 +1,4 @@
-use Rattle.std.proofs.Common.{◌≡◌, ◌∙◌, List, ℕ, ap, subst, sym, Result, arith}
+use Rattle.std.proofs.Common.{◌≡◌, ◌∙◌, List, ℕ, ap, subst, sym, arith}
 use Rattle.std.specs.Result.{result_ok}
 use Rattle.scp03_card.specs.Protected.{protected}
 use Rattle.scp03_host.specs.Agreement.{told_field}
