@@ -1,6 +1,6 @@
 //! Lists of applets.
 
-ghost use Rattle.std.specs.Prelude.{◌≡◌, ◌<◌, ◌++◌, ℕ, List, IfNone, IfSome, MatchOption, length, slice_get};
+ghost use Rattle.std.specs.Prelude.{◌≡◌, ◌<◌, ◌++◌, ℕ, List, IfNone, IfSome, length, slice_get};
 ghost use Rattle.card_types.specs.Aid.{IsAid};
 ghost use Rattle.tokens_receipts.specs.Receipt.{with_length};
 ghost use Rattle.cap_pack.specs.Cap.{AreApplets, Lists, ListsCounted};

@@ -1,9 +1,9 @@
 -- What holds once the transcript was flushed.
-use Rattle.std.proofs.Common.{◌≡◌, ◌⊎◌, ℕ, List, [], ap, subst, sym, ◌∙◌, inl, inr}
+use Rattle.std.proofs.Common.{◌≡◌, ℕ, List, [], ap, subst, sym, ◌∙◌, inl, inr}
 use Rattle.faults.specs.Faults.{next_count}
 use Rattle.io_edge.specs.Streams.{SinkState, SourceState}
 use Rattle.host_tool.proofs.Reached.{Reached}
-use Rattle.host_tool.specs.Ends.{HasAsked, HasEnded, HasExchanged, HostCourse, HostEndsAt, Streams, Tells, WroteWith, flows}
+use Rattle.host_tool.specs.Ends.{HasAsked, HasEnded, HostCourse, HostEndsAt, Streams, Tells, WroteWith, flows}
 use Rattle.host_tool.specs.Flush.{HostFlushes, Flushed, HandedOn}
 use Rattle.line_runs.specs.declared.exit.Ending.{Ending}
 use Rattle.line_runs.specs.declared.exit.Ending.TheVariants.{Finished, Differs, BadLine, Failed, ReadFault, WriteFault, InputTooLong}

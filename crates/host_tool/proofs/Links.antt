@@ -1,5 +1,5 @@
 -- What a link over a pair of streams has conveyed after one more command or reset.
-use Rattle.std.proofs.Common.{◌≡◌, ℕ, List, [], ◌∷◌, ◌++◌, take, Option, None, Some, Ok, Err, refl, sym, subst}
+use Rattle.std.proofs.Common.{◌≡◌, ℕ, List, [], ◌∷◌, ◌++◌, take, Option, None, Some, Ok, Err, sym, subst}
 use Rattle.faults.specs.Faults.{Rose}
 use Rattle.script_tool.specs.Talk.{Answered, Event, Reset}
 use Rattle.host_tool.proofs.Sent.{asked_conveyed, asked_refused, exchanged_reset, refused_again, reset_again, reset_cut}

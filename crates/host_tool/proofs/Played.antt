@@ -1,17 +1,17 @@
 -- What comes of one line that a host plays over a pair of streams.
-use Rattle.std.proofs.Common.{◌≡◌, ◌≢◌, ◌⊎◌, ℕ, ◌||◌, Bool, true, false, List, [], ◌∷◌, ◌++◌, Option, None, Some, Result, Ok, Err, refl, sym, ap, subst, ◌∙◌, inl, inr}
-use Rattle.std.specs.Prelude.{◌↔◌, IfSome}
+use Rattle.std.proofs.Common.{◌≡◌, ◌≢◌, ℕ, ◌||◌, Bool, true, List, [], ◌∷◌, ◌++◌, Option, None, Some, refl, sym, ap, subst, ◌∙◌, inl, inr}
+use Rattle.std.specs.Prelude.{IfSome}
 use Rattle.io_edge.specs.declared.sink.Sink.{Ghosts as Sink}
 use Rattle.io_edge.specs.declared.source.Source.{Ghosts as Source}
 use Rattle.line_runs.specs.Taker.{TakerComes}
 use Rattle.line_runs.specs.declared.taker.Taking.{Taking}
 use Rattle.line_runs.specs.declared.taker.Taking.TheVariants.{Taken, Failed}
 use Rattle.script_tool.specs.Host.{Host}
-use Rattle.script_tool.specs.HostLines.{HostAsks, HostPlays, is_difference, text_line}
-use Rattle.script_tool.specs.Printed.{kind_of, Printed, Nothing, Reply, Opened, Cryptogram, Said, Differs, printed_text, status_printed}
+use Rattle.script_tool.specs.HostLines.{HostPlays, is_difference, text_line}
+use Rattle.script_tool.specs.Printed.{kind_of, Printed, Nothing, printed_text, status_printed}
 use Rattle.script_tool.specs.Kinds.{is_difference_kind}
 use Rattle.script_tool.proofs.AnswerKinds.{differs_as}
-use Rattle.script_tool.specs.Line.{HasNoForm, SaysLine}
+use Rattle.script_tool.specs.Line.{SaysLine}
 use Rattle.script_tool.specs.Play.{playing, remembering}
 use Rattle.script_tool.specs.Link.{Breaks, Conveys}
 use Rattle.script_tool.specs.Played.{IsBroken}
@@ -21,9 +21,7 @@ use Rattle.script_tool.specs.declared.link.CardLink.{Ghosts as CardLink}
 use Rattle.script_tool.specs.Talk.{Event}
 use Rattle.script_lines.specs.declared.line.ScriptLine.{ScriptLine}
 use Rattle.script_tool.specs.declared.played.Played as the_played
-use Rattle.script_tool.specs.declared.played.Played.TheVariants.{Quiet, Answer, Note, WantDiffers}
-use Rattle.script_tool.specs.declared.played.StepStop.{StepStop}
-use Rattle.script_tool.specs.declared.played.StepStop.TheVariants.{Form}
+use Rattle.script_tool.specs.declared.played.Played.TheVariants.{Quiet}
 use Rattle.host_tool.proofs.Sent.{exchanged_none}
 use Rattle.host_tool.specs.Conveyed.{Conveyed, Unanswered}
 use Rattle.host_tool.specs.Link.{Linked, sides_of}
@@ -35,11 +33,7 @@ use Rattle.host_tool.specs.declared.fault.LinkFault.{LinkFault}
 pub text_by_kind : (quiet : Bool) (printed : Printed) (text written : List ℕ) → text ≡ printed_text quiet printed
     → (kind_of printed ≢ Quiet → written ≡ text ++ 10 ∷ []) → (kind_of printed ≡ Quiet → written ≡ []) → written ≡ text_line quiet printed
 text_by_kind quiet Nothing text written is some none = none refl
-text_by_kind quiet (Reply body status) text written is some none = some (λ same. cc same) ∙ ap (λ (t : List ℕ). t ++ 10 ∷ []) is
-text_by_kind quiet (Opened counter status) text written is some none = some (λ same. cc same) ∙ ap (λ (t : List ℕ). t ++ 10 ∷ []) is
-text_by_kind quiet (Cryptogram counter) text written is some none = some (λ same. cc same) ∙ ap (λ (t : List ℕ). t ++ 10 ∷ []) is
-text_by_kind quiet (Said word) text written is some none = some (λ same. cc same) ∙ ap (λ (t : List ℕ). t ++ 10 ∷ []) is
-text_by_kind quiet (Differs want got) text written is some none = some (λ same. cc same) ∙ ap (λ (t : List ℕ). t ++ 10 ∷ []) is
+text_by_kind quiet _ text written is some none = some (λ same. cc same) ∙ ap (λ (t : List ℕ). t ++ 10 ∷ []) is
 
 module _ {S K : Type 0} (source : Source S) (sink : Sink K) where
   -- a link that has not failed has conveyed no event since now

@@ -1,5 +1,5 @@
 -- How the playing of a script ends, by how its lines were taken.
-use Rattle.std.proofs.Common.{◌≡◌, ◌⊎◌, ℕ, ◌||◌, Bool, true, false, List, [], ◌∷◌, ◌++◌, length, take, Option, Some, None, refl, sym, ap, subst, ◌∙◌, inl, inr}
+use Rattle.std.proofs.Common.{◌≡◌, ◌⊎◌, ℕ, ◌||◌, Bool, true, false, List, [], ◌∷◌, ◌++◌, take, Option, Some, refl, sym, ap, subst, ◌∙◌, inl, inr}
 use Rattle.std.proofs.lemmas.List.{append-nil}
 use Rattle.std.proofs.Math.Seq.{take-nil}
 use Rattle.std.proofs.lemmas.List.Folds.{concat-append}
@@ -23,12 +23,12 @@ use Rattle.host_tool.specs.Conveyed.{Conveyed, Exchanged, InVain, Unanswered}
 use Rattle.host_tool.specs.Ends.{HasAsked, HasCutCommands, HasCutText, HasEnded, HasExchanged, HostCourse, Next, Streams, Tells, WroteWith, before, flows, script_side, told}
 use Rattle.host_tool.specs.Exchange.{command_line, sent_by}
 use Rattle.host_tool.specs.Fault.{fault_text}
-use Rattle.host_tool.specs.Link.{Linked, sides_of}
+use Rattle.host_tool.specs.Link.{sides_of}
 use Rattle.host_tool.specs.Played.{HostHasPlayed}
 use Rattle.host_tool.specs.Ending.{at_failure, host_ending}
-use Rattle.host_tool.specs.Takes.{FailsFrom, Hosting, Joins, HostStands, host_taker}
+use Rattle.host_tool.specs.Takes.{FailsFrom, Hosting, HostStands, host_taker}
 use Rattle.line_runs.specs.declared.exit.Ending.{Ending}
-use Rattle.line_runs.specs.declared.exit.Ending.TheVariants.{Finished, Differs, BadLine, Failed, ReadFault, WriteFault, InputTooLong}
+use Rattle.line_runs.specs.declared.exit.Ending.TheVariants.{Finished, BadLine, Failed, ReadFault, WriteFault, InputTooLong}
 use Rattle.host_tool.specs.declared.fault.LinkFault.{LinkFault}
 use Rattle.host_tool.specs.declared.fault.LinkFault.TheVariants as fault
 
@@ -188,10 +188,7 @@ module _ {S K : Type 0} (source : Source S) (sink : Sink K) (reads writes : Type
       in_vain fault.Ended (inl (command, asks, vain)) other = (asked_for fault.Ended command asks vain, refl)
       in_vain fault.ReadFault (inl (command, asks, vain)) other = (asked_for fault.ReadFault command asks vain, refl)
       in_vain fault.TooMany (inl (command, asks, vain)) other = (asked_for fault.TooMany command asks vain, refl)
-      in_vain (fault.BadReply n) (inr plays) other = absurd plays.4
-      in_vain fault.Ended (inr plays) other = absurd plays.4
-      in_vain fault.ReadFault (inr plays) other = absurd plays.4
-      in_vain fault.TooMany (inr plays) other = absurd plays.4
+      in_vain _ (inr plays) other = absurd plays.4
 
       -- the text of the fault was written
       answered : (why : LinkFault) → WhereNone why → failed.text ≡ fault_text why → Wrote writes (course.texts ++ failed.text ∷ []) (script_side old) (script_side new)

@@ -1,13 +1,12 @@
 -- What has gone over a pair of streams, one thing after the other.
-use Rattle.std.proofs.Common.{◌≡◌, ◌+◌, ◌-◌, ◌≤◌, ℕ, List, [], ◌∷◌, ◌++◌, length, take, drop, Some, None, Ok, Err, refl, sym, ap, subst, ◌∙◌, append_assoc, arith, length-append}
+use Rattle.std.proofs.Common.{◌≡◌, ◌+◌, ◌-◌, ℕ, List, [], ◌∷◌, ◌++◌, length, take, drop, Some, Ok, Err, refl, sym, ap, subst, ◌∙◌, append_assoc, arith, length-append}
 use Rattle.std.proofs.lemmas.List.{append-nil, flat_map_more, take-append-drop}
 use Rattle.io_edge.specs.Lines.{IsNextLine, Reading, ahead, room}
-use Rattle.io_edge.specs.declared.line.TheConstants.{INPUT_LIMIT}
 use Rattle.line_runs.proofs.ComeFirst.{come_more, room_left, shrinks}
 use Rattle.line_runs.specs.Taken.{ComeFirst}
 use Rattle.script_tool.specs.Talk.{Answered, Event, Reset}
 use Rattle.faults.specs.Faults.{Rose}
-use Rattle.host_tool.specs.Asked.{AsksAnswered, HearsReply, WritesCommand, WritesPart}
+use Rattle.host_tool.specs.Asked.{AsksAnswered, WritesCommand}
 use Rattle.host_tool.specs.Conveyed.{Conveyed, CutShort, Exchanged, InVain, IsHeard, IsWhyUnanswered, Unanswered, Sides, awaited}
 use Rattle.host_tool.specs.Exchange.{SpellReplies, SpellsReply, command_line, event_line, reset_line, sent_by}
 use Rattle.host_tool.specs.declared.fault.LinkFault.{LinkFault}
@@ -140,10 +139,7 @@ module _ (hears tells : Type 0) where
   pub refused_again : (old new : Sides) (fault : LinkFault) (events : List Event) (command : List ℕ) → Conveyed hears tells old new (Some fault) events
       → Unanswered hears tells old new (Some fault) events command
   refused_again old new WriteFault events command cut = cut_more old new (sent_by events) (command_line command) cut
-  refused_again old new (BadReply n) events command none = absurd none
-  refused_again old new Ended events command none = absurd none
-  refused_again old new ReadFault events command none = absurd none
-  refused_again old new TooMany events command none = absurd none
+  refused_again old new _ events command none = absurd none
 
   -- nor is a further reset
   pub reset_again : (old new : Sides) (fault : LinkFault) (events : List Event) → Conveyed hears tells old new (Some fault) events
@@ -151,9 +147,7 @@ module _ (hears tells : Type 0) where
   reset_again old new WriteFault events cut =
       subst (λ (bytes : List ℕ). CutShort tells old new bytes) (flat_map_more event_line [] events Reset) (cut_more old new (sent_by events) reset_line cut)
   reset_again old new (BadReply n) events none = absurd none
-  reset_again old new Ended events none = absurd none
-  reset_again old new ReadFault events none = absurd none
-  reset_again old new TooMany events none = absurd none
+  reset_again old new _ events none = absurd none
 
   -- a reset that is not written
   pub reset_cut : (old mid new : Sides) (events : List Event) → Exchanged hears tells old mid events

@@ -1,8 +1,8 @@
 -- For the code inside. What comes of one command.
-use Rattle.std.specs.Prelude.{◌≡◌, ℕ, ◌+◌, List, ◌++◌, length, take, Option, None, Some, Result, Ok, Err}
+use Rattle.std.specs.Prelude.{◌≡◌, ℕ, ◌+◌, List, ◌++◌, length, take, None, Result, Ok, Err}
 use Rattle.faults.specs.Faults.{Rose}
 use Rattle.io_edge.specs.Lines.{IsNextLine, Reading, ahead, room}
-use Rattle.host_tool.specs.Conveyed.{IsHeard, IsWhyUnanswered, Sides, awaited}
+use Rattle.host_tool.specs.Conveyed.{IsHeard, IsWhyUnanswered, Sides}
 use Rattle.host_tool.specs.Exchange.{SpellsReply, command_line}
 use Rattle.host_tool.specs.declared.fault.LinkFault.{LinkFault}
 use Rattle.host_tool.specs.declared.fault.LinkFault.TheVariants.{WriteFault}

@@ -1,6 +1,6 @@
 -- What a link over a pair of streams has conveyed. In what follows `hears` and `tells` are facts where the replies and the commands
 -- tell their bytes, and `⊥` where they don't. This profile's own.
-use Rattle.std.specs.Prelude.{◌≡◌, ◌≢◌, ℕ, ◌+◌, List, [], ◌∷◌, ◌++◌, length, Option, None, Some}
+use Rattle.std.specs.Prelude.{◌≡◌, ◌≢◌, ℕ, ◌+◌, List, [], ◌++◌, length, Option, None, Some}
 use Rattle.faults.specs.Faults.{Rose}
 use Rattle.io_edge.specs.Lines.{Reading, ahead, room}
 use Rattle.io_edge.specs.Streams.{SinkState, SourceState}

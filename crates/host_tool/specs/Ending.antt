@@ -1,5 +1,5 @@
 -- For the code inside. How a script ends, by how its lines were taken.
-use Rattle.std.specs.Prelude.{Bool, Option, None, Some}
+use Rattle.std.specs.Prelude.{Bool, Option, Some}
 use Rattle.line_runs.specs.Exit.{ending_of_lines}
 use Rattle.line_runs.specs.declared.ending.LinesEnd.{LinesEnd}
 use Rattle.line_runs.specs.declared.ending.LinesEnd.TheVariants as lines

@@ -1,6 +1,5 @@
 //! A script that is played.
 
-ghost use Rattle.std.specs.Prelude.{◌≡◌, ◌⊎◌, ℕ};
 ghost use Rattle.host_tool.specs.Ends.{IsOver, HostEnds, flows, told};
 ghost use Rattle.host_tool.specs.Flush.{HostFlushes};
 

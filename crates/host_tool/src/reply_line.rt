@@ -1,6 +1,6 @@
 //! The lines that are read.
 
-ghost use Rattle.std.specs.Prelude.{◌≡◌, ℕ, List, None, IsTrue, MatchOption};
+ghost use Rattle.std.specs.Prelude.{◌≡◌, ℕ, List, None, IsTrue};
 ghost use Rattle.host_tool.specs.Asked.{HeardCause, Hears};
 ghost use Rattle.host_tool.specs.Exchange.{SpellsReply};
 

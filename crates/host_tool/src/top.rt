@@ -1,6 +1,6 @@
 //! The top call.
 
-ghost use Rattle.std.specs.Prelude.{◌≡◌, ◌⊎◌};
+ghost use Rattle.std.specs.Prelude.{◌≡◌};
 ghost use Rattle.host_tool.specs.Ends.{IsOver, flows, told};
 ghost use Rattle.host_tool.specs.Words.{EndsInText, EndsPlay, IsOneWord, host_usage};
 

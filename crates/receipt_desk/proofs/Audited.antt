@@ -6,7 +6,7 @@ use Rattle.receipt_desk.specs.Audited.{CleanAuditsTell, DoAll, slip_of}
 use Rattle.receipt_desk.specs.InTurn.{JudgedInTurn, Slip, fits_from}
 use Rattle.receipt_desk.specs.Judgement.{Judged, last_after}
 use Rattle.receipt_desk.specs.declared.line.DeskLine.{DeskLine}
-use Rattle.receipt_desk.specs.declared.line.DeskLine.TheVariants.{Nothing, Key, Unique, From, Sign, Receipt}
+use Rattle.receipt_desk.specs.declared.line.DeskLine.TheVariants.{Nothing, Key, Sign, Receipt}
 use Rattle.receipt_desk.specs.declared.receipted.Receipted.{Receipted}
 use Rattle.receipt_desk.specs.declared.verdict.Verdict.{Verdict}
 use Rattle.receipt_desk.specs.declared.verdict.Verdict.TheVariants.{Fits, Form, Unique as other_card, Number, Mac}
@@ -23,12 +23,9 @@ or_other false c is = is
 
 -- once a verdict was another one, that stays
 line_stays : (at next : AuditState) (line : DeskLine) (said : List ℕ) → Does at line next said → at.differs ≡ true → next.differs ≡ true
-line_stays at next Nothing said does is = ap (λ (s : AuditState). s.differs) does.0 ∙ is
-line_stays at next (Key key) said does is = ap (λ (s : AuditState). s.differs) does.0 ∙ is
-line_stays at next (Unique bytes) said does is = ap (λ (s : AuditState). s.differs) does.0 ∙ is
-line_stays at next (From number) said does is = ap (λ (s : AuditState). s.differs) does.0 ∙ is
 line_stays at next (Sign s) said does is = ap (λ (s : AuditState). s.differs) does.2 ∙ is
 line_stays at next (Receipt r) said does is = ap (λ (s : AuditState). s.differs) does.4 ∙ or_true at.differs (is_other does.1) is
+line_stays at next _ said does is = ap (λ (s : AuditState). s.differs) does.0 ∙ is
 
 all_stay : (at end : AuditState) (lines : List DeskLine) → DoAll at lines end → at.differs ≡ true → end.differs ≡ true
 all_stay at end [] does is = ap (λ (s : AuditState). s.differs) does ∙ is
@@ -71,5 +68,4 @@ clean_audits_tell at end (Receipt r ∷ lines) (slip ∷ slips) key own brings d
     judged_and_rest at end lines key r slip slips brings.0 clean (λ verdict rest. clean_audits_tell (with_verdict at verdict) end lines slips key own brings.1 rest clean)
     does.2.1 judged (subst (λ (s : AuditState). DoAll s lines end) does.2.4 does.3)
 clean_audits_tell at end (Key k ∷ lines) slips key own brings does clean = absurd brings
-clean_audits_tell at end (Unique bytes ∷ lines) slips key own brings does clean = absurd brings
-clean_audits_tell at end (From number ∷ lines) slips key own brings does clean = absurd brings
+clean_audits_tell at end _ slips key own brings does clean = absurd brings

@@ -5,23 +5,15 @@ use Rattle.script_tool.specs.Line.{IsBlank, IsComment}
 use Rattle.script_tool.specs.Words.{Reads, words_of}
 use Rattle.receipt_desk.specs.Lines.{SaysDesk, SaysWords}
 use Rattle.receipt_desk.specs.declared.line.DeskLine.{DeskLine}
-use Rattle.receipt_desk.specs.declared.line.DeskLine.TheVariants.{Nothing, Key, Unique, From, Sign, Receipt}
+use Rattle.receipt_desk.specs.declared.line.DeskLine.TheVariants.{Nothing}
 
 says_text : (text : List ℕ) (line : DeskLine) → SaysWords (words_of text) line → SaysDesk text line
 says_text text Nothing says = absurd says
-says_text text (Key key) says = says
-says_text text (Unique bytes) says = says
-says_text text (From number) says = says
-says_text text (Sign s) says = says
-says_text text (Receipt r) says = says
+says_text text _ says = says
 
 words_say : (text : List ℕ) → (IsBlank text ⊎ IsComment text → ⊥) → (line : DeskLine) → SaysDesk text line → SaysWords (words_of text) line
 words_say text some Nothing says = absurd (some says)
-words_say text some (Key key) says = says
-words_say text some (Unique bytes) says = says
-words_say text some (From number) says = says
-words_say text some (Sign s) says = says
-words_say text some (Receipt r) says = says
+words_say text some _ says = says
 
 -- a text that is no blank line and no comment says what its words say
 pub read_text : (text : List ℕ) (answer : Option DeskLine) → (IsBlank text ⊎ IsComment text → ⊥) → Reads (SaysWords (words_of text)) answer → Reads (SaysDesk text) answer

@@ -1,5 +1,5 @@
 -- What comes of a line by what it says.
-use Rattle.std.proofs.Common.{◌≡◌, ℕ, List, subst}
+use Rattle.std.proofs.Common.{ℕ, List, subst}
 use Rattle.line_runs.specs.Taker.{TakerComes}
 use Rattle.line_runs.specs.declared.taker.Taking.{Taking}
 use Rattle.line_runs.specs.declared.taker.Taking.TheVariants.{Taken, NoForm, Failed}

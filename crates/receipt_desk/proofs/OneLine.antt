@@ -91,12 +91,8 @@ Begins (Receipt r) l = l ≡ 114
 words_begin : (words : List (List ℕ)) (line : DeskLine) → SaysWords words line → Begins line (letter (first words))
 unfolding letter
 words_begin words Nothing says = absurd says
-words_begin (verb ∷ words) (Key key) says = ap letter says.0
-words_begin (verb ∷ words) (Unique bytes) says = ap letter says.0
-words_begin (verb ∷ words) (From number) says = ap letter says.0
-words_begin (verb ∷ words) (Sign s) says = ap letter says.0
-words_begin (verb ∷ words) (Receipt r) says = ap letter says.0
 words_begin [] line says = absurd says
+words_begin (verb ∷ words) _ says = ap letter says.0
 
 nothing_begins : (text : List ℕ) → SaysDesk text Nothing → letter (first (words_of text)) ≤ 35
 unfolding letter

@@ -74,10 +74,7 @@ module _ (key unique : List ℕ) (last : ℕ) (reply : List ℕ) (aids : List (L
 
   last_place : (v : Verdict) → place v ≤ 4
   last_place Form = omega arith
-  last_place Unique = omega arith
-  last_place (Number have want) = omega arith
-  last_place Mac = omega arith
-  last_place (Fits number) = omega arith
+  last_place _ = omega arith
 
   -- two of them do not hold at once
   apart : (a b : Verdict) → place a < place b → Says a → Says b → ⊥

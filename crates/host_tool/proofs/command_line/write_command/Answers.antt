@@ -1,7 +1,6 @@
-use Rattle.std.proofs.Common.{◌≡◌, ◌∙◌, ◌++◌, ℕ, List, [], take, drop, ap, sym, refl}
+use Rattle.std.proofs.Common.{◌∙◌, ◌++◌, ℕ, List, [], take, drop, ap, sym, refl}
 use Rattle.std.proofs.lemmas.List.{append-nil, take-append-drop}
 use Rattle.std.proofs.lemmas.Result.{on_err_weaker, on_ok_weaker}
-use Rattle.hex.specs.Hex.{encode_lower}
 use Rattle.host_tool.proofs.Pieces.{all_written, last_cut, no_digits, on_err, one_more, piece_cut}
 use Rattle.host_tool.proofs.command_line.write_command.Goals as goal
 

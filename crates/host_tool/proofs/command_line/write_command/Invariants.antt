@@ -1,4 +1,4 @@
-use Rattle.std.proofs.Common.{◌≡◌, ℕ, length}
+use Rattle.std.proofs.Common.{◌≡◌, length}
 use Rattle.host_tool.proofs.Pieces.{Partly}
 use Rattle.host_tool.proofs.command_line.write_command.Given as goal
 

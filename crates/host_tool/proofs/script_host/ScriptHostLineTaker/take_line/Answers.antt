@@ -1,4 +1,4 @@
-use Rattle.std.proofs.Common.{◌≡◌, Err, refl, sym, ap, ◌∙◌}
+use Rattle.std.proofs.Common.{Err, sym, ap, ◌∙◌}
 use Rattle.faults.specs.Faults.{next_count}
 use Rattle.script_tool.proofs.AnswerKinds.{says_some}
 use Rattle.host_tool.proofs.Played.{command_fails, fails_now, line_taken, reset_fails, taken_now}
