@@ -56,38 +56,28 @@ module _ {reads : Type 0} (writes : Type 0) (old : Outside) (source : SourceStat
     λ told. (let part = wrote told in (part.0, part.1 ∙ ap (λ m. m ++ take part.0 text) (silent told))),
   ))
   finished_ends BadLine wrote = absurd wrote
-  finished_ends Failed wrote = absurd wrote
-  finished_ends ReadFault wrote = absurd wrote
-  finished_ends InputTooLong wrote = absurd wrote
+  finished_ends _ wrote = absurd wrote
 
 -- the lines ended before the end of the input
 pub stopped_ends : {reads : Type 0} (writes : Type 0) (old new : Outside) (course : CapCourse reads old new) (end : LinesEnd) → end ≢ lines.Finished
     → EndsAt writes old new course end → CapEndsAt writes old new course (ending_of_lines end false)
 stopped_ends writes old new course lines.Finished other at = absurd (other refl)
-stopped_ends writes old new course lines.BadLine other at = at
-stopped_ends writes old new course lines.ReadFault other at = at
-stopped_ends writes old new course lines.InputTooLong other at = at
 stopped_ends writes old new course lines.WriteFault other at = inl at
 stopped_ends writes old new course lines.Failed other at = (let fault = at.0 in absurd fault.fails)
+stopped_ends writes old new course _ other at = at
 
 -- they did not end with a bad line, nor with an input that is too long
 pub stopped_well : (end : LinesEnd) → end ≢ lines.BadLine → end ≢ lines.InputTooLong → (ending_of_lines end false ≢ BadLine) × (ending_of_lines end false ≢ InputTooLong)
-stopped_well lines.Finished good short = (λ is. cc is, λ is. cc is)
-stopped_well lines.ReadFault good short = (λ is. cc is, λ is. cc is)
-stopped_well lines.WriteFault good short = (λ is. cc is, λ is. cc is)
-stopped_well lines.Failed good short = (λ is. cc is, λ is. cc is)
 stopped_well lines.BadLine good short = absurd (good refl)
 stopped_well lines.InputTooLong good short = absurd (short refl)
+stopped_well _ good short = (λ is. cc is, λ is. cc is)
 
 -- what is written of bytes never ends so
 pub written_well : (bytes : List ℕ) (writes : Type 0) (old new : List ℕ) (result : Ending) → WritesJoined bytes writes old new result → (result ≢ BadLine) × (result ≢ InputTooLong)
 written_well bytes writes old new Finished wrote = (λ is. cc is, λ is. cc is)
 written_well bytes writes old new Differs wrote = (λ is. cc is, λ is. cc is)
 written_well bytes writes old new WriteFault wrote = (λ is. cc is, λ is. cc is)
-written_well bytes writes old new BadLine wrote = absurd wrote
-written_well bytes writes old new Failed wrote = absurd wrote
-written_well bytes writes old new ReadFault wrote = absurd wrote
-written_well bytes writes old new InputTooLong wrote = absurd wrote
+written_well bytes writes old new _ wrote = absurd wrote
 
 -- a flush keeps what holds
 module _ {reads : Type 0} (writes : Type 0) (old : Outside) (source : SourceState) (now later : SinkState) (same : writes → later.written ≡ now.written)
@@ -109,9 +99,7 @@ module _ {reads : Type 0} (writes : Type 0) (old : Outside) (source : SourceStat
   still_faultless Differs at = still_written true at
   still_faultless BadLine at = still_bad writes old source now later same course at
   still_faultless InputTooLong at = still_long writes old source now later same course at
-  still_faultless Failed at = absurd at
-  still_faultless ReadFault at = absurd at
-  still_faultless WriteFault at = absurd at
+  still_faultless _ at = absurd at
 
   flush_at : (ending result : Ending) → Faultless now ending → (Faultless later ending → At later ending) → IsFlushed writes ending old.sink later result → At later result
   flush_at ending result at ends (inl done) = rw done.0 (ends (still_faultless ending at))

@@ -20,12 +20,9 @@ use Rattle.line_runs.specs.declared.exit.Ending.TheVariants.{Finished, Differs, 
 pub left_finished : {T : Type 0} {does : Taker T} {reads : Type 0} {first : T} (writes : Type 0) (old new : Outside)
     (course : Course does reads first old.source.left new.source.left) (end : LinesEnd) (at : EndsAt writes old new course end) → end ≡ lines.Finished
     → left_at writes old new course end at ≡ course.last
-left_finished writes old new course lines.Finished at is = refl
-left_finished writes old new course lines.BadLine at is = refl
-left_finished writes old new course lines.InputTooLong at is = refl
-left_finished writes old new course lines.ReadFault at is = refl
 left_finished writes old new course lines.WriteFault at is = cc is
 left_finished writes old new course lines.Failed at is = cc is
+left_finished writes old new course _ at is = refl
 
 -- whose faults the lines ended with are those that the program ends with
 pub lines_cause : (end : LinesEnd) (differs : Bool) (source source' sink sink' : ℕ) → lines_ends.EndCause end (lines_ends.counted source sink 0) (lines_ends.counted source' sink' 0)
@@ -107,13 +104,10 @@ desk_done end differs result source source' sink sink' cause unread unwritten go
 -- a flush keeps an ending, or makes it a write fault
 pub flush_keeps : (writes : Type 0) (ending result : Ending) (old new : SinkState) → AfterFlush writes ending old new result → (result ≡ ending) ⊎ (result ≡ WriteFault)
 flush_keeps writes Finished result old new (inl done) = inl done.0
-flush_keeps writes Finished result old new (inr refused) = inr refused.0
 flush_keeps writes Differs result old new (inl done) = inl done.0
-flush_keeps writes Differs result old new (inr refused) = inr refused.0
 flush_keeps writes BadLine result old new (inl done) = inl done.0
-flush_keeps writes BadLine result old new (inr refused) = inr refused.0
 flush_keeps writes InputTooLong result old new (inl done) = inl done.0
-flush_keeps writes InputTooLong result old new (inr refused) = inr refused.0
 flush_keeps writes Failed result old new done = inl done.0
 flush_keeps writes ReadFault result old new done = inl done.0
 flush_keeps writes WriteFault result old new done = inl done.0
+flush_keeps writes _ result old new (inr refused) = inr refused.0

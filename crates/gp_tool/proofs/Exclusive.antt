@@ -138,18 +138,14 @@ module _ (verb : Verb) where
   Own Differs memory room ahead differs = (differs ≡ true) × IsOver room ahead
   Own BadLine memory room ahead differs = IsBad verb memory room ahead
   Own InputTooLong memory room ahead differs = IsShortCut room ahead
-  Own Failed memory room ahead differs = ⊥
-  Own ReadFault memory room ahead differs = ⊥
-  Own WriteFault memory room ahead differs = ⊥
+  Own _ memory room ahead differs = ⊥
 
   own_halts : (ending : Ending) (memory : Memory verb) (room : ℕ) (ahead : List ℕ) (differs : Bool) → Own ending memory room ahead differs → Halts verb memory room ahead
   own_halts Finished memory room ahead differs own = inr (inr own.1)
   own_halts Differs memory room ahead differs own = inr (inr own.1)
   own_halts BadLine memory room ahead differs own = inl own
   own_halts InputTooLong memory room ahead differs own = inr (inl own)
-  own_halts Failed memory room ahead differs own = absurd own
-  own_halts ReadFault memory room ahead differs own = absurd own
-  own_halts WriteFault memory room ahead differs own = absurd own
+  own_halts _ memory room ahead differs own = absurd own
 
   -- of two such endings at one place there is one
   own_once : (ending another : Ending) (memory : Memory verb) (room : ℕ) (ahead : List ℕ) (differs : Bool)
@@ -170,22 +166,15 @@ module _ (verb : Verb) where
   own_once InputTooLong Differs memory room ahead differs own again = absurd (cut_not_over room ahead own.0 own.1 again.1)
   own_once InputTooLong BadLine memory room ahead differs own again = absurd (bad_not_cut memory room ahead again own)
   own_once InputTooLong InputTooLong memory room ahead differs own again = refl
-  own_once Failed another memory room ahead differs own again = absurd own
-  own_once ReadFault another memory room ahead differs own again = absurd own
-  own_once WriteFault another memory room ahead differs own again = absurd own
   own_once ending Failed memory room ahead differs own again = absurd again
   own_once ending ReadFault memory room ahead differs own again = absurd again
   own_once ending WriteFault memory room ahead differs own again = absurd again
+  own_once _ another memory room ahead differs own again = absurd own
 
   -- the texts that are written
   abbrev texts_at : Ending → List (List ℕ) → Effect → List (List ℕ)
   texts_at BadLine given effect = with_bad_line given effect
-  texts_at Finished given effect = effect.texts
-  texts_at Differs given effect = effect.texts
-  texts_at InputTooLong given effect = effect.texts
-  texts_at Failed given effect = effect.texts
-  texts_at ReadFault given effect = effect.texts
-  texts_at WriteFault given effect = effect.texts
+  texts_at _ given effect = effect.texts
 
   is_over : (input : List ℕ) (given : List (List ℕ)) (ahead : List ℕ) → IsRead input given ahead → IsOver (room_left INPUT_LIMIT input ahead) ahead
   is_over input given ahead read = (let short = read.2 in (read.1, omega (arith, short)))
@@ -229,9 +218,7 @@ module _ (verb : Verb) where
         ended_by Differs new course (at.0, is_over old.source.left course.given course.ahead (at.1 tt)) (at.2 tt)
     ended BadLine new clean ends = (let at = ends.ends in ended_by BadLine new ends.course (at.0 tt) (at.1 tt))
     ended InputTooLong new clean ends = (let at = ends.ends in ended_by InputTooLong new ends.course (at.0 tt) (at.1 tt))
-    ended Failed new clean ends = absurd clean
-    ended ReadFault new clean ends = absurd clean
-    ended WriteFault new clean ends = absurd clean
+    ended _ new clean ends = absurd clean
 
     behind : (ending : Ending) (new : Outside) → (ends : Ended ending new)
         → HaltsBehind 1 INPUT_LIMIT old.source.left (start verb first) ends.given ends.effect ends.last ends.ahead

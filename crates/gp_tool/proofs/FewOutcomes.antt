@@ -71,10 +71,8 @@ line_few play number line at next effect plays = (let few = script_few line at n
 
 pub breaks_few : (verb : Verb) (line : List ℕ) (at : Place (Memory verb)) (begun : List Outcome) (mid : State) (next : Outcome) → FailsLine verb line at begun mid next
     → length begun ≤ 60 * length line + 1
-breaks_few run line at begun mid next fails = (let none = ap (λ (os : List Outcome). length os) fails.0 in omega (arith, none))
-breaks_few why line at begun mid next fails = (let none = ap (λ (os : List Outcome). length os) fails.0 in omega (arith, none))
-breaks_few replay line at begun mid next fails = (let none = ap (λ (os : List Outcome). length os) fails.0 in omega (arith, none))
 breaks_few play line at begun mid next fails = (let few = begun_few line at begun mid next fails in omega (arith, few))
+breaks_few _ line at begun mid next fails = (let none = ap (λ (os : List Outcome). length os) fails.0 in omega (arith, none))
 
 -- lines that are not too long
 pub runs_few : (verb : Verb) (number : ℕ) (lines : List (List ℕ)) (at last : Place (Memory verb)) (effect : Effect) → AreShort lines → RunsLines verb number lines at effect last

@@ -50,18 +50,13 @@ module _ (verb : Verb) (reads writes : Type 0) (Rests : List Outcome → State �
     still_faultless Differs at = (at.0, at.1, still_wrote course.effect.texts at.2)
     still_faultless BadLine at = (at.0, still_wrote (with_bad_line course.given course.effect) at.1)
     still_faultless InputTooLong at = (at.0, still_wrote course.effect.texts at.1)
-    still_faultless Failed at = absurd at
-    still_faultless ReadFault at = absurd at
-    still_faultless WriteFault at = absurd at
+    still_faultless _ at = absurd at
 
     faultless_at : (ending : Ending) → Faultless later ending → At later ending
-    faultless_at Finished at = at
-    faultless_at Differs at = at
-    faultless_at BadLine at = at
-    faultless_at InputTooLong at = at
     faultless_at Failed at = absurd at
     faultless_at ReadFault at = absurd at
     faultless_at WriteFault at = absurd at
+    faultless_at _ at = at
 
     -- the flush was answered or refused
     flush_at : (ending result : Ending) → Faultless now ending → IsFlushed writes ending before.sink later result → At later result
@@ -82,12 +77,7 @@ module _ (verb : Verb) (reads writes : Type 0) (Rests : List Outcome → State �
   -- a run whose flush was refused rests where it rested before
   rests_still : (ending result : Ending) → AfterFlush writes ending before.sink later result → result ≢ Failed → ending ≢ Failed
   rests_still Failed result after other is = other after.0
-  rests_still Finished result after other is = cc is
-  rests_still Differs result after other is = cc is
-  rests_still BadLine result after other is = cc is
-  rests_still ReadFault result after other is = cc is
-  rests_still WriteFault result after other is = cc is
-  rests_still InputTooLong result after other is = cc is
+  rests_still _ result after other is = cc is
 
   pub after_flush : (ending result : Ending) → AfterFlush writes ending before.sink later result → now.flushes ≡ before.sink.flushes
       → Ends verb reads writes Rests Fails first ending before (outside source now) → Ends verb reads writes Rests Fails first result before (outside source later)
@@ -100,13 +90,10 @@ module _ (verb : Verb) (reads writes : Type 0) (Rests : List Outcome → State �
 pub flushed : (writes : Type 0) (ending result : Ending) (before later : SinkState)
     → AfterFlush writes ending before later result → Flushes writes result before later
 flushed writes Finished result before later (inl done) = rw done.0 done.1
-flushed writes Finished result before later (inr fault) = rw fault.0 tt
 flushed writes Differs result before later (inl done) = rw done.0 done.1
-flushed writes Differs result before later (inr fault) = rw fault.0 tt
 flushed writes BadLine result before later (inl done) = rw done.0 done.1
-flushed writes BadLine result before later (inr fault) = rw fault.0 tt
 flushed writes InputTooLong result before later (inl done) = rw done.0 done.1
-flushed writes InputTooLong result before later (inr fault) = rw fault.0 tt
 flushed writes Failed result before later done = rw done.0 done.1
 flushed writes ReadFault result before later done = rw done.0 done.1
 flushed writes WriteFault result before later done = rw done.0 tt
+flushed writes _ result before later (inr fault) = rw fault.0 tt

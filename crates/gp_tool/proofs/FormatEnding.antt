@@ -9,7 +9,7 @@ use Rattle.gp_tool.specs.Ends.{EndCause}
 use Rattle.gp_tool.specs.Flush.{AfterFlush}
 use Rattle.gp_tool.specs.Formatted.{FormatEnds, IsFactoryCard}
 use Rattle.line_runs.specs.declared.exit.Ending.{Ending}
-use Rattle.line_runs.specs.declared.exit.Ending.TheVariants.{Finished, Differs, BadLine, Failed, ReadFault, WriteFault, InputTooLong}
+use Rattle.line_runs.specs.declared.exit.Ending.TheVariants.{Finished, Failed, WriteFault}
 
 module _ {F : Type 0} (device : Flash F) (writes : Type 0) (flash : F) (old new : SinkState) (same : writes → new.written ≡ old.written) where
   -- the device is the factory card
@@ -25,9 +25,6 @@ module _ {F : Type 0} (device : Flash F) (writes : Type 0) (flash : F) (old new 
 pub formats_all : {F : Type 0} (device : Flash F) (writes : Type 0) (flash : F) (old new : SinkState) (before after : Around ℕ ℕ ℕ) (ending : Ending) → FormatEnds device writes ending flash old new → EndCause ending before after
     → (Rose before.sink after.sink → ⊥) → (Rose before.flash after.flash → ⊥) → exit_status ending ≡ 0
 formats_all device writes flash old new before after Finished ends cause no_sink no_device = refl
-formats_all device writes flash old new before after Differs ends cause no_sink no_device = absurd ends
-formats_all device writes flash old new before after BadLine ends cause no_sink no_device = absurd ends
 formats_all device writes flash old new before after Failed ends cause no_sink no_device = absurd (no_device cause.2)
-formats_all device writes flash old new before after ReadFault ends cause no_sink no_device = absurd ends
 formats_all device writes flash old new before after WriteFault ends cause no_sink no_device = absurd (no_sink cause.1)
-formats_all device writes flash old new before after InputTooLong ends cause no_sink no_device = absurd ends
+formats_all device writes flash old new before after _ ends cause no_sink no_device = absurd ends

@@ -28,7 +28,7 @@ use Rattle.gp_tool.specs.Milling.{Milled}
 use Rattle.gp_tool.specs.Verbs.{EndsMill, MillsCard}
 use Rattle.gp_tool.specs.declared.card_end.CardEnd as the_end
 use Rattle.line_runs.specs.declared.exit.Ending.{Ending}
-use Rattle.line_runs.specs.declared.exit.Ending.TheVariants.{Finished, Differs, BadLine, Failed, ReadFault, WriteFault, InputTooLong}
+use Rattle.line_runs.specs.declared.exit.Ending.TheVariants.{Finished, Failed, WriteFault}
 use Rattle.gp_tool.specs.declared.tally.Tally.{Tally}
 use Rattle.gp_tool.specs.declared.workload.Workload.{Workload}
 
@@ -107,12 +107,7 @@ module _ {F : Type 0} (device : Flash F) (made : F) (card : CardOver F) (first :
   pub mill_since : (writes : Type 0) (ending : Ending) (old last : SinkState) → MillEnds device writes work card.flash first ending new count old last
       → MillEnds device writes work made first ending new count old last
   mill_since writes Failed old last ends = (some_since ends.0, ends.1)
-  mill_since writes Finished old last ends = (ends.0, all_since ends.0 ends.1, ends.2)
-  mill_since writes Differs old last ends = (ends.0, all_since ends.0 ends.1, ends.2)
-  mill_since writes BadLine old last ends = (ends.0, all_since ends.0 ends.1, ends.2)
-  mill_since writes ReadFault old last ends = (ends.0, all_since ends.0 ends.1, ends.2)
-  mill_since writes WriteFault old last ends = (ends.0, all_since ends.0 ends.1, ends.2)
-  mill_since writes InputTooLong old last ends = (ends.0, all_since ends.0 ends.1, ends.2)
+  mill_since writes _ old last ends = (ends.0, all_since ends.0 ends.1, ends.2)
 
 -- the registry of the factory card is the one that was powered on with
 pub is_factory : {F : Type 0} (device : Flash F) (flash : F) (registry : Registry) → IsFactoryCard device flash → (device.tells → Reopens (device.pages flash) registry)
@@ -152,12 +147,9 @@ leaves_made device made new factory moments told =
 pub mills_all : {F : Type 0} (device : Flash F) (writes : Type 0) (work : Workload) (made : F) (first : State) (ending : Ending) (new : F) (count : ℕ) (old last : SinkState) (before after : Around ℕ ℕ ℕ)
     → MillEnds device writes work made first ending new count old last → EndCause ending before after → (Rose before.sink after.sink → ⊥) → (Rose before.flash after.flash → ⊥) → exit_status ending ≡ 0
 mills_all device writes work made first Finished new count old last before after ends cause no_sink no_device = refl
-mills_all device writes work made first Differs new count old last before after ends cause no_sink no_device = absurd ends.2
-mills_all device writes work made first BadLine new count old last before after ends cause no_sink no_device = absurd ends.2
 mills_all device writes work made first Failed new count old last before after ends cause no_sink no_device = absurd (no_device cause.2)
-mills_all device writes work made first ReadFault new count old last before after ends cause no_sink no_device = absurd ends.2
 mills_all device writes work made first WriteFault new count old last before after ends cause no_sink no_device = absurd (no_sink cause.1)
-mills_all device writes work made first InputTooLong new count old last before after ends cause no_sink no_device = absurd ends.2
+mills_all device writes work made first _ new count old last before after ends cause no_sink no_device = absurd ends.2
 
 -- how a workload ends, since a moment before the card was made
 module _ {K F : Type 0} (work : Workload) (sink : Sink K) (device : Flash F) (status count : ℕ) (before mid new : F) (old now : K) (same : device.faults mid ≡ device.faults before) where

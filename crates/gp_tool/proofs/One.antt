@@ -20,11 +20,9 @@ use Rattle.gp_tool.specs.declared.verb.Verb.TheVariants.{Run as run, Why as why,
 
 -- a line that was played has a form
 pub plays_form : (verb : Verb) (number : ℕ) (line : List ℕ) (at next : Place (Memory verb)) (effect : Effect) → PlaysLine verb number line at effect next → HasForm verb line at.memory
-plays_form run number line at next effect plays = (plays.0, plays.1)
-plays_form why number line at next effect plays = (plays.0, plays.1)
 plays_form replay number line at next effect (inl keeps) = inl (keeps.0, keeps.1)
 plays_form replay number line at next effect (inr compared) = inr (compared.0, compared.1, compared.2)
-plays_form play number line at next effect plays = (plays.0, plays.1)
+plays_form _ number line at next effect plays = (plays.0, plays.1)
 
 -- two effects, and two places
 abbrev pub Same : {M : Type 0} → Effect → Effect → Place M → Place M → Type 0

@@ -21,19 +21,14 @@ use Rattle.gp_tool.specs.Mill.{IsCounterText, MillEnds, PlaysAll, summary, tally
 use Rattle.gp_tool.specs.RunsLines.{start}
 use Rattle.gp_tool.specs.Verbs.{MillsCard}
 use Rattle.line_runs.specs.declared.exit.Ending.{Ending}
-use Rattle.line_runs.specs.declared.exit.Ending.TheVariants.{Finished, Differs, BadLine, Failed, ReadFault, WriteFault, InputTooLong}
+use Rattle.line_runs.specs.declared.exit.Ending.TheVariants.{Finished}
 use Rattle.gp_tool.specs.declared.verb.Verb.TheVariants.{Play}
 use Rattle.gp_tool.specs.declared.workload.Workload.{Workload}
 
 -- 0 is the status of one ending
 finished : (ending : Ending) → 0 ≡ exit_status ending → ending ≡ Finished
 finished Finished is = refl
-finished Differs is = absurd (omega (arith, is))
-finished BadLine is = absurd (omega (arith, is))
-finished Failed is = absurd (omega (arith, is))
-finished ReadFault is = absurd (omega (arith, is))
-finished WriteFault is = absurd (omega (arith, is))
-finished InputTooLong is = absurd (omega (arith, is))
+finished _ is = absurd (omega (arith, is))
 
 -- a registry has one text of its counter
 counter_once : (registry : Registry) (a b : List ℕ) → IsCounterText registry a → IsCounterText registry b → a ≡ b

@@ -1,14 +1,14 @@
 -- What comes of one line in `play`.
-use Rattle.std.proofs.Common.{◌≡◌, ◌⊎◌, ℕ, Bool, true, false, ◌||◌, List, [], ◌∷◌, ◌++◌, refl, sym, ap, ◌∙◌, inl, inr}
-use Rattle.std.specs.Prelude.{◌↔◌, Result, Err}
+use Rattle.std.proofs.Common.{◌≡◌, ℕ, Bool, true, false, ◌||◌, List, [], ◌∷◌, ◌++◌, refl, sym, ap, ◌∙◌}
+use Rattle.std.specs.Prelude.{Result, Err}
 use Rattle.flash_core.specs.declared.flash.Flash.{Ghosts as Flash}
 use Rattle.script_tool.specs.Host.{Host}
 use Rattle.script_tool.specs.HostLines.{is_difference}
 use Rattle.script_tool.specs.Kept.{RepresentsHost}
-use Rattle.script_tool.specs.Printed.{kind_of, Printed, Nothing, Reply, Opened, Cryptogram, Said, Differs, printed_text, status_printed}
+use Rattle.script_tool.specs.Printed.{kind_of, Printed, Nothing, printed_text, status_printed}
 use Rattle.script_tool.specs.Kinds.{is_difference_kind, prints_kind}
 use Rattle.script_tool.proofs.AnswerKinds.{RefusesForm, differs_as}
-use Rattle.script_tool.specs.Line.{HasNoForm, SaysLine}
+use Rattle.script_tool.specs.Line.{SaysLine}
 use Rattle.script_tool.specs.Play.{playing, remembering}
 use Rattle.script_tool.specs.Quiet.{is_quiet}
 use Rattle.script_tool.specs.declared.host_state.HostState.{HostState}
@@ -25,20 +25,12 @@ use Rattle.gp_tool.specs.StepsCard.{StepsOver, StopsCard}
 -- a line that prints nothing has no text
 silent_text : (quiet : Bool) (printed : Printed) → prints_kind (kind_of printed) ≡ false → texts_of quiet printed ≡ []
 silent_text quiet Nothing none = refl
-silent_text quiet (Reply body status) none = cc none
-silent_text quiet (Opened counter status) none = cc none
-silent_text quiet (Cryptogram counter) none = cc none
-silent_text quiet (Said word) none = cc none
-silent_text quiet (Differs want got) none = cc none
+silent_text quiet _ none = cc none
 
 -- any other one has one
 one_text : (quiet : Bool) (printed : Printed) → prints_kind (kind_of printed) ≡ true → texts_of quiet printed ≡ (printed_text quiet printed ++ 10 ∷ []) ∷ []
 one_text quiet Nothing some = cc some
-one_text quiet (Reply body status) some = refl
-one_text quiet (Opened counter status) some = refl
-one_text quiet (Cryptogram counter) some = refl
-one_text quiet (Said word) some = refl
-one_text quiet (Differs want got) some = refl
+one_text quiet _ some = refl
 
 -- a line that says something is stopped by the link alone
 pub stopped_by_link : (result : Result the_played.Played StepStop) (number : ℕ) (line : List ℕ) (stop : StepStop) (said : ScriptLine) → RefusesForm result number line

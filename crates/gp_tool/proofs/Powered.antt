@@ -24,18 +24,13 @@ use Rattle.gp_tool.specs.RunsLines.{start}
 use Rattle.gp_tool.specs.Verbs.{Serves}
 use Rattle.gp_tool.specs.declared.verb.Verb.{Verb}
 use Rattle.line_runs.specs.declared.exit.Ending.{Ending}
-use Rattle.line_runs.specs.declared.exit.Ending.TheVariants.{Finished, Differs, BadLine, Failed, ReadFault, WriteFault, InputTooLong}
+use Rattle.line_runs.specs.declared.exit.Ending.TheVariants.{Failed}
 
 -- the device's count was no greater before
 pub cause_since : (ending : Ending) (source sink before device : ℕ) (new : Around ℕ ℕ ℕ) → before ≤ device
     → EndCause ending (around source sink device) new → EndCause ending (around source sink before) new
-cause_since Finished source sink before device new less cause = cause
-cause_since Differs source sink before device new less cause = cause
-cause_since BadLine source sink before device new less cause = cause
 cause_since Failed source sink before device new less cause = (cause.0, cause.1, (let rose = cause.2 in omega (arith, rose, less)))
-cause_since ReadFault source sink before device new less cause = cause
-cause_since WriteFault source sink before device new less cause = cause
-cause_since InputTooLong source sink before device new less cause = cause
+cause_since _ source sink before device new less cause = cause
 
 module _ {F : Type 0} (device : Flash F) (old : F) (card : CardOver F) (first : State) (stands : CardRepresents device card first)
     (powered : device.tells → (all : List Registry) → Always (device.may_leave old) (ReopensAsOne all) → LeavesOnly device old card.flash (ReopensAsOne all)) where

@@ -18,7 +18,7 @@ use Rattle.gp_tool.specs.Ends.{EndCause}
 use Rattle.gp_tool.specs.Flush.{AfterFlush}
 use Rattle.gp_tool.specs.Shown.{HasShown, IsFront, IsWhole, ShowEnds, WritesFront, WritesWhole}
 use Rattle.line_runs.specs.declared.exit.Ending.{Ending}
-use Rattle.line_runs.specs.declared.exit.Ending.TheVariants.{Finished, Differs, BadLine, Failed, ReadFault, WriteFault, InputTooLong}
+use Rattle.line_runs.specs.declared.exit.Ending.TheVariants.{Finished, Failed, WriteFault}
 use Rattle.gp_tool.specs.declared.view.View.{View}
 use Rattle.gp_tool.specs.declared.view.View.TheVariants as view
 
@@ -88,9 +88,6 @@ has_shown device counts old new card state stands powered shows same =
 pub shows_all : (view : View) (told : Type 0) (registry : Registry) (old new : SinkState) (before after : Around ℕ ℕ ℕ) (ending : Ending) → ShowEnds view told registry ending old new → EndCause ending before after
     → (Rose before.sink after.sink → ⊥) → (Rose before.flash after.flash → ⊥) → exit_status ending ≡ 0
 shows_all view told registry old new before after Finished ends cause no_sink no_device = refl
-shows_all view told registry old new before after Differs ends cause no_sink no_device = absurd ends.2
-shows_all view told registry old new before after BadLine ends cause no_sink no_device = absurd ends.2
 shows_all view told registry old new before after Failed ends cause no_sink no_device = absurd (no_device cause.2)
-shows_all view told registry old new before after ReadFault ends cause no_sink no_device = absurd ends.2
 shows_all view told registry old new before after WriteFault ends cause no_sink no_device = absurd (no_sink cause.1)
-shows_all view told registry old new before after InputTooLong ends cause no_sink no_device = absurd ends.2
+shows_all view told registry old new before after _ ends cause no_sink no_device = absurd ends.2

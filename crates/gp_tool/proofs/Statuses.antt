@@ -1,25 +1,15 @@
 -- The statuses of endings.
 use Rattle.std.proofs.Common.{◌≢◌, arith}
 use Rattle.line_runs.specs.declared.exit.Ending.{Ending}
-use Rattle.line_runs.specs.declared.exit.Ending.TheVariants.{Finished, Differs, BadLine, Failed, ReadFault, WriteFault, InputTooLong}
+use Rattle.line_runs.specs.declared.exit.Ending.TheVariants.{Finished}
 use Rattle.line_runs.specs.Exit.{exit_status, status_with}
 
 -- none is that of words without a form, of a card that was not powered on, or of want of memory
 pub never_others : (ending : Ending) → (exit_status ending ≢ 1) × (exit_status ending ≢ 4) × (exit_status ending ≢ 7)
 never_others Finished = (λ is. omega (arith, is), λ is. omega (arith, is), λ is. omega (arith, is))
-never_others Differs = (λ is. omega (arith, is), λ is. omega (arith, is), λ is. omega (arith, is))
-never_others BadLine = (λ is. omega (arith, is), λ is. omega (arith, is), λ is. omega (arith, is))
-never_others Failed = (λ is. omega (arith, is), λ is. omega (arith, is), λ is. omega (arith, is))
-never_others ReadFault = (λ is. omega (arith, is), λ is. omega (arith, is), λ is. omega (arith, is))
-never_others WriteFault = (λ is. omega (arith, is), λ is. omega (arith, is), λ is. omega (arith, is))
-never_others InputTooLong = (λ is. omega (arith, is), λ is. omega (arith, is), λ is. omega (arith, is))
+never_others _ = (λ is. omega (arith, is), λ is. omega (arith, is), λ is. omega (arith, is))
 
 -- none of a desk's is that of want of memory
 pub desk_never : (ending : Ending) → status_with 10 ending ≢ 7
 desk_never Finished is = omega (arith, is)
-desk_never Differs is = omega (arith, is)
-desk_never BadLine is = omega (arith, is)
-desk_never Failed is = omega (arith, is)
-desk_never ReadFault is = omega (arith, is)
-desk_never WriteFault is = omega (arith, is)
-desk_never InputTooLong is = omega (arith, is)
+desk_never _ is = omega (arith, is)

@@ -15,7 +15,7 @@ use Rattle.gp_tool.specs.Standing.{Held, Means}
 use Rattle.line_runs.specs.Turn.{IsAtEnd, TakesFew}
 use Rattle.gp_tool.specs.Turn.{BreaksNext, EndsWith, Refuses, TakesLine}
 use Rattle.line_runs.specs.declared.exit.Ending.{Ending}
-use Rattle.line_runs.specs.declared.exit.Ending.TheVariants.{Finished, Differs, BadLine, Failed, ReadFault, WriteFault, InputTooLong}
+use Rattle.line_runs.specs.declared.exit.Ending.TheVariants.{Finished, BadLine, WriteFault}
 use Rattle.gp_tool.specs.declared.verb.Verb.{Verb}
 
 -- a run ends with a bad line as its number was written
@@ -24,11 +24,7 @@ pub refusal_ends : {F : Type 0} (verb : Verb) (device : Flash F) (reads writes :
     → TakesFew reads old before now → EndsWith verb device reads writes at at' old before now ending
 refusal_ends verb device reads writes at at' old before now BadLine same bad refuses taken = (same, (bad, refuses, taken))
 refusal_ends verb device reads writes at at' old before now WriteFault same bad refuses taken = inr (same, (bad, refuses, taken))
-refusal_ends verb device reads writes at at' old before now Finished same bad refuses taken = absurd refuses
-refusal_ends verb device reads writes at at' old before now Differs same bad refuses taken = absurd refuses
-refusal_ends verb device reads writes at at' old before now Failed same bad refuses taken = absurd refuses
-refusal_ends verb device reads writes at at' old before now ReadFault same bad refuses taken = absurd refuses
-refusal_ends verb device reads writes at at' old before now InputTooLong same bad refuses taken = absurd refuses
+refusal_ends verb device reads writes at at' old before now _ same bad refuses taken = absurd refuses
 
 -- a run ends at the end of its input, by whether a reply has differed
 pub input_ends : {F : Type 0} (verb : Verb) (device : Flash F) (reads writes : Type 0) (at at' : Standing F (Held verb)) (old : Reading) (before now : Outside) (differs : Bool)
@@ -43,10 +39,7 @@ refuses_from writes number before mid now BadLine same refuses = λ told. refuse
 refuses_from writes number before mid now WriteFault same refuses =
     λ told. (let part = refuses told in (part.0, part.1 ∙ ap (λ w. w ++ take part.0 (bad_line number)) (same told)))
 refuses_from writes number before mid now Finished same refuses = absurd refuses
-refuses_from writes number before mid now Differs same refuses = absurd refuses
-refuses_from writes number before mid now Failed same refuses = absurd refuses
-refuses_from writes number before mid now ReadFault same refuses = absurd refuses
-refuses_from writes number before mid now InputTooLong same refuses = absurd refuses
+refuses_from writes number before mid now _ same refuses = absurd refuses
 
 -- the line that was given is the next one ahead
 unfoldable pub given_line : {F : Type 0} (verb : Verb) (device : Flash F) (reads : Type 0) (number : ℕ) (at at' : Standing F (Held verb)) (place : Place (Memory verb)) (old new : Reading) (left left' : List ℕ) (line : Line)

@@ -25,8 +25,6 @@ three_words x y z seed rounds second third none (Mill work, (first, last, are, n
 
 pub no_form : (words : List Word) (seed rounds : Word) → 3 ≤ length words → length words < 4 → seed ≡ slice_index_or words 1 seed → rounds ≡ slice_index_or words 2 rounds
     → ((work : Workload) → NameWorkload (string_bytes seed) (string_bytes rounds) work → ⊥) → HaveForm words → ⊥
-no_form [] seed rounds least most second third none form = omega (arith, least)
-no_form (x ∷ []) seed rounds least most second third none form = omega (arith, least)
-no_form (x ∷ y ∷ []) seed rounds least most second third none form = omega (arith, least)
 no_form (x ∷ y ∷ z ∷ []) seed rounds least most second third none form = three_words x y z seed rounds second third none form
 no_form (x ∷ y ∷ z ∷ w ∷ words) seed rounds least most second third none form = omega (arith, most)
+no_form _ seed rounds least most second third none form = omega (arith, least)

@@ -1,6 +1,6 @@
 -- For the code inside. What one more line does to a run, and how a run ends with it. `reads` and `writes` are facts where source
 -- and sink tell their bytes.
-use Rattle.std.specs.Prelude.{◌≡◌, ◌⊎◌, ℕ, ◌+◌, ◌<◌, ◌≤◌, Bool, false, true, List, [], ◌∷◌, ◌++◌, length, take, None}
+use Rattle.std.specs.Prelude.{◌≡◌, ◌⊎◌, ℕ, ◌+◌, ◌<◌, ◌≤◌, false, true, List, [], ◌∷◌, ◌++◌, length, take, None}
 use Rattle.std.specs.List.{concat}
 use Rattle.io_edge.specs.Lines.{Reading, IsNextLine, IsWithin, ahead, room}
 use Rattle.io_edge.specs.declared.line.TheConstants.{LINE_LIMIT}

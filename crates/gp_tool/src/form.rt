@@ -1,6 +1,6 @@
 //! The forms of a line.
 
-ghost use Rattle.std.specs.Prelude.{◌≡◌, ◌≤◌, ◌<◌, ◌*◌, ℕ, List, length, take, codes, IsTrue, ◌↔◌, IfSome, IfNone, IfOk, OnErr, All, Ok, MatchOption};
+ghost use Rattle.std.specs.Prelude.{◌≡◌, ◌≤◌, ◌<◌, ◌*◌, ℕ, List, length, take, codes, IsTrue, ◌↔◌, IfSome, Ok, MatchOption};
 ghost use Rattle.hex.specs.Hex.{decode_of};
 ghost use Rattle.gp_tool.specs.Form.{SpellsInputs, IsForCard, FitsRoom, inputs_of};
 

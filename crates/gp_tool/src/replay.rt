@@ -1,6 +1,6 @@
 //! A line of the verb `replay`.
 
-ghost use Rattle.std.specs.Prelude.{◌≡◌, ◌≢◌, ◌≤◌, ◌++◌, ◌∷◌, ℕ, Bool, List, true, take, length, IfSome, IsTrue, MatchOption, ◌↔◌};
+ghost use Rattle.std.specs.Prelude.{◌≡◌, ◌≢◌, ◌≤◌, ◌∷◌, ℕ, Bool, List, true, take, length, IfSome, IsTrue, MatchOption, ◌↔◌};
 ghost use Rattle.gp_tool.specs.Compare.{ComparesLine, KeepsLine, SkipsSpaces, keeping};
 ghost use Rattle.gp_tool.specs.Form.{FailsCommand};
 ghost use Rattle.gp_tool.specs.Replay.{IsForReplay, Replays, Wants};

@@ -1,6 +1,6 @@
 //! The lines that are written.
 
-ghost use Rattle.std.specs.Prelude.{◌≡◌, ◌≤◌, ◌<◌, ◌*◌, ◌+◌, ◌++◌, [], ◌∷◌, ℕ, length, take, OnOk, OnErr};
+ghost use Rattle.std.specs.Prelude.{◌≡◌, ◌≤◌, ◌<◌, ◌*◌, ◌+◌, ◌++◌, [], ℕ, length, take, OnOk, OnErr};
 ghost use Rattle.faults.specs.Faults.{HasCause};
 ghost use Rattle.hex.specs.Hex.{encode_lower};
 ghost use Rattle.gp_tool.specs.Replies.{behind_reply, reason};

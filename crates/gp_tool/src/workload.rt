@@ -1,7 +1,6 @@
 //! Which workload the words name.
 
 ghost use Rattle.std.specs.Prelude.{◌≡◌, ◌<◌, ◌≤◌, ◌∷◌, ◌^◌, ◌↔◌, ℕ, List, IsTrue, MatchOption, string_bytes};
-ghost use Rattle.std.specs.Str.Parse.{IsNumeral, digits_value};
 ghost use Rattle.gp_tool.specs.Mill.{IsNumber, NameWorkload};
 
 /// A workload: the seed of its generator, and how many rounds it has.

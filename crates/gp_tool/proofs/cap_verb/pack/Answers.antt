@@ -1,4 +1,4 @@
-use Rattle.std.proofs.Common.{false, [], sym, ◌∙◌, refl}
+use Rattle.std.proofs.Common.{false, [], ◌∙◌}
 use Rattle.cap_pack.proofs.InputLines.{lines_joined}
 use Rattle.line_runs.specs.Outside.{outside}
 use Rattle.gp_tool.proofs.CapEnding.{finished_ends, stopped_ends, stopped_well, written_well}
