@@ -5,7 +5,7 @@
 # An example is a block ```script, and behind it a block ```text with what it prints; ```text 8 wants the status 8, and
 # ```text alone 0. In a block ```console the lines that begin with `$ ` are given to a shell, and the others are what they
 # write. Each heading of the page that begins with a code span is that of a verb: it has an example with this verb, and the
-# verbs are those of crates/script_lines/src.
+# verbs are those that a `match` of crates/script_lines/src tells apart.
 #
 # It says what differs, then 'N passed, M failed', and ends with 0 where nothing failed.
 set -euo pipefail
@@ -26,9 +26,6 @@ from pathlib import Path
 GP = sys.argv[1]
 PAGE = Path("docs/SCRIPTS.md")
 CODE = Path("crates/script_lines/src")
-
-# Words that have a fixed spelling and are no verbs.
-WORDS = {"fill", "none"}
 
 passed = failed = 0
 
@@ -84,7 +81,7 @@ def read_page():
 
 def verbs_of_code():
     source = "".join(path.read_text() for path in sorted(CODE.glob("*.rt")))
-    return set(re.findall(r'\b(?:fixed|read)\(b"([a-z]+)"', source)) - WORDS
+    return set(re.findall(r'^ +b"([a-z]+)" =>', source, re.M))
 
 
 def play(script):
