@@ -1,5 +1,5 @@
 -- For the code inside. The things of a registry, as words say them.
-use Rattle.std.specs.Prelude.{◌≡◌, ℕ, List, [], ◌∷◌, codes}
+use Rattle.std.specs.Prelude.{◌≡◌, List, [], ◌∷◌, codes, decimal, ℕ}
 use Rattle.script_tool.specs.Words.{SpellsSome, SpellsUpTo}
 use Rattle.cases.specs.declared.things.EntryWords.{EntryWords}
 use Rattle.cases.specs.declared.things.FileWords.{FileWords}
@@ -22,12 +22,12 @@ SaysEntry (aid ∷ in' ∷ domain ∷ from ∷ file ∷ of ∷ module' ∷ state
     × SpellsUpTo 16 module' e.«module».items × SaysState state e.state
 SaysEntry _ e = ⊥
 
--- `AID in DOMAIN bytes N` with these digits of N, and then the rest
-abbrev pub SaysFile : List (List ℕ) → FileWords → List ℕ → List (List ℕ) → Type 0
-SaysFile (aid ∷ in' ∷ domain ∷ size ∷ digits ∷ more) f count rest =
-    (in' ≡ codes "in") × (size ≡ codes "bytes") × (digits ≡ count) × (more ≡ rest)
+-- `AID in DOMAIN bytes N`, and then the rest
+abbrev pub SaysFile : List (List ℕ) → FileWords → List (List ℕ) → Type 0
+SaysFile (aid ∷ in' ∷ domain ∷ size ∷ digits ∷ more) f rest =
+    (in' ≡ codes "in") × (size ≡ codes "bytes") × (digits ≡ decimal f.len) × (more ≡ rest)
     × SpellsUpTo 16 aid f.aid.items × SpellsUpTo 16 domain f.domain.items
-SaysFile _ f count rest = ⊥
+SaysFile _ f rest = ⊥
 
 -- `OWNER VV II KEY CCCCCC`
 abbrev pub SaysKey : List (List ℕ) → KeyWords → Type 0

@@ -13,13 +13,13 @@ ghost use Rattle.script_tool.specs.Words.{Reads, SpellsByte, left};
 
 use crate::case_error::CaseError;
 use crate::things::{EntryWords, FileWords, KeyWords, Name, ObjectWords, slot_number};
-use crate::words::short_number;
 use card_types::{
     Aid, COUNTER_LIMIT, CardLife, Entry, FILE_LIMIT, KeyRec, LifeMark, LoadFile, Object,
     Privileges, Tables,
 };
 use flash_core::PAGES;
 use page_journal::FIRST_LOAD_PAGE;
+use script_tool::short_number;
 use script_tool::values::byte;
 use script_tool::words::Words;
 

@@ -1,13 +1,14 @@
 //! The things of a registry, as words say them.
 
-ghost use Rattle.std.specs.Prelude.{◌≡◌, ◌<◌, ◌^◌, ℕ, List, decimal, Some, IfNone, IfOk, IfSome};
+ghost use Rattle.std.specs.Prelude.{◌≡◌, ◌<◌, ◌^◌, ℕ, List, Some, IfNone, IfOk, IfSome};
 ghost use Rattle.cases.specs.Things.{SaysEntry, SaysFile, SaysKey, SaysObject, SaysState};
 ghost use Rattle.cases.specs.declared.things.FileWords.{FileWords};
 ghost use Rattle.script_tool.specs.Words.{Reads, left};
 
 use crate::case_error::CaseError;
-use crate::words::{after, last_after, short_number};
+use crate::words::{after, last_after};
 use arrayvec::ArrayVec;
+use script_tool::short_number;
 use script_tool::values::{array, bytes};
 use script_tool::words::Words;
 
@@ -81,9 +82,8 @@ pub struct FileWords {
 impl FileWords {
     /// Reads the first words of those that are left.
     pub fn read(words: &mut Words<'_>) -> Option<FileWords>
-        ensures said { IfSome result (λ file. (digits : List ℕ) × SaysFile (left words.old) file digits (left words.new)
-            × ((n : ℕ) → n < 2 ^ 16 → digits ≡ decimal n → file.len ≡ n)) }
-        ensures none { IfNone result ((file : FileWords) (rest : List (List ℕ)) → file.len < 2 ^ 16 → SaysFile (left words.old) file (decimal file.len) rest → ⊥) }
+        ensures said { IfSome result (λ file. SaysFile (left words.old) file (left words.new)) }
+        ensures none { IfNone result ((file : FileWords) (rest : List (List ℕ)) → file.len < 2 ^ 16 → SaysFile (left words.old) file rest → ⊥) }
     {
         let aid = bytes(words.take()?)?;
         let domain = bytes(after(words, b"in")?)?;

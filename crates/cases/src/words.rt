@@ -13,13 +13,6 @@ pub fn number(word: &[u8]) -> Option<u32>
     u32::try_from(spelled_number(word)?).ok()
 }
 
-/// The same, of 16 bits.
-pub fn short_number(word: &[u8]) -> Option<u16>
-    ensures { (n : ℕ) → n < 2 ^ 16 → word.now ≡ decimal n → result ≡ Some n }
-{
-    u16::try_from(spelled_number(word)?).ok()
-}
-
 /// Takes this very word, and answers the next one.
 pub fn after<'a>(words: &mut Words<'a>, label: &[u8]) -> Option<&'a [u8]>
     ensures { MatchOption result ((word : List ℕ) (rest : List (List ℕ)) → left words.old ≡ label.now ∷ word ∷ rest → ⊥) (λ word. left words.old ≡ label.now ∷ word.now ∷ left words.new) }

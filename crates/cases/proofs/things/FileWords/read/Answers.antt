@@ -13,8 +13,6 @@ returns-clause-said c =
     let rest = left c.after-2.new.words in
     let file : FileWords = record { aid = c.in_ok-aid.aid; domain = c.in_ok-domain.domain; len = c.in_ok-len.len } in
     let words : left c.args.words.now ≡ aid ∷ codes "in" ∷ domain ∷ codes "bytes" ∷ digits ∷ rest =
-    c.in_ok-take.ensures ∙ ap (λ l. aid ∷ l) (c.in_ok-after.ensures ∙ ap (λ l. codes "in" ∷ domain ∷ l) c.in_ok-after-2.ensures) in (
-      digits,
-      subst (λ w. SaysFile w file digits rest) (sym words) (refl, refl, refl, refl, c.in_ok-aid.ensures, c.in_ok-domain.ensures),
-      λ n small is. cc (c.short_number.ensures n small is, c.in_ok-len.was),
-    )
+    c.in_ok-take.ensures ∙ ap (λ l. aid ∷ l) (c.in_ok-after.ensures ∙ ap (λ l. codes "in" ∷ domain ∷ l) c.in_ok-after-2.ensures) in
+    subst (λ w. SaysFile w file rest) (sym words)
+    (refl, refl, rw c.in_ok-len.was at c.short_number.ensures.number, refl, c.in_ok-aid.ensures, c.in_ok-domain.ensures)
