@@ -59,8 +59,7 @@ pub fn perform<F: Flash>(
     ensures kept { ((form_in request.now).instruction ≡ GET_DATA) ⊎ Contains managing (form_in request.now).instruction → held.new ≡ held.old }
     ensures room { length reply.new.items ≤ DATA_LIMIT }
 {
-    let channel = received.channel;
-    let domain = received.selected;
+    let (channel, domain) = (received.channel, received.selected);
     let at = usize::from(channel);
     match request {
         Request::Select { prefix: aid } => {
