@@ -10,3 +10,4 @@ pub mod Next
 pub mod Kinds
 pub mod Lines
 pub mod Walks
+pub mod Prelude

@@ -1,14 +1,7 @@
 //! Whether a card accepts a command of a security domain that was just selected.
 
 ghost use Rattle.std.specs.Prelude.{◌≡◌, ◌↔◌, ℕ, List, None, Some, IsTrue};
-ghost use Rattle.access_matrix.specs.May.{IsSelectable, initialize};
-ghost use Rattle.access_matrix.specs.Passing.{ForSaid, IsUsed};
-ghost use Rattle.access_matrix.specs.There.{judged_there};
-ghost use Rattle.card_types.specs.Represents.{IsInOrder, Represents, domain_aid};
-ghost use Rattle.card_types.specs.Registry.{Registry};
-ghost use Rattle.policy_machine.specs.CommandForm.{FailsFirst};
-ghost use Rattle.policy_machine.specs.InitializeUpdate.{initialize_update};
-ghost use Rattle.policy_slots.specs.LiveEnds.{first_live, live_with_channel};
+ghost use Rattle.access_matrix.specs.Prelude.{FailsFirst, ForSaid, IsInOrder, IsSelectable, IsUsed, Registry, Represents, domain_aid, first_live, initialize, initialize_update, judged_there, live_with_channel};
 
 use crate::slots::entry_aid;
 use card_types::Tables;

@@ -1,10 +1,7 @@
 //! The acts of a security domain, in the order of their deeds.
 
 ghost use Rattle.std.specs.Prelude.{[], ◌∷◌, None, Some, IfSome, IfNone, option_copied, option_map};
-ghost use Rattle.card_types.specs.Represents.{HasLayout};
-ghost use Rattle.access_matrix.specs.Kinds.{number};
-ghost use Rattle.access_matrix.specs.Next.{HasPlace, HasPlaceFrom, HasSpot, IsNext, NoneNext, alone, deed_place, place_order, spot_of};
-ghost use Rattle.access_matrix.specs.Rights.{kind_of};
+ghost use Rattle.access_matrix.specs.Prelude.{HasLayout, HasPlace, HasPlaceFrom, HasSpot, IsNext, NoneNext, alone, deed_place, kind_of, number, place_order, spot_of};
 
 use crate::act::Act;
 use crate::deed::Deed;

@@ -1,15 +1,7 @@
 //! The tokens that approve delegated commands.
 
 ghost use Rattle.std.specs.Prelude.{◌≡◌, ◌↔◌, ◌≤◌, ℕ, List, IfSome, IsTrue, length};
-ghost use Rattle.access_matrix.specs.Commands.{IsTokenFor};
-ghost use Rattle.card_types.specs.Represents.{IsInOrder};
-ghost use Rattle.card_types.specs.Privileges.{delegated_management};
-ghost use Rattle.card_types.specs.Well.{IsKeyLength};
-ghost use Rattle.policy_machine.specs.Admission.{Admitted};
-ghost use Rattle.policy_machine.specs.Delegation.{Holds};
-ghost use Rattle.policy_machine.specs.DeleteObject.{IsDelegated};
-ghost use Rattle.policy_machine.specs.Management.{acting};
-ghost use Rattle.policy_slots.specs.StateShown.{ActsIn};
+ghost use Rattle.access_matrix.specs.Prelude.{ActsIn, Admitted, Holds, IsDelegated, IsInOrder, IsKeyLength, IsTokenFor, acting, delegated_management};
 ghost use Rattle.tokens_receipts.specs.Token as approved;
 
 use aes_block::{BlockKey, SealingAes128, SealingAes192, SealingAes256};

@@ -1,12 +1,8 @@
 //! The commands of deeds, and whether a card accepts them.
 
 ghost use Rattle.std.specs.Prelude.{◌≡◌, ◌↔◌, [], ◌∷◌, IsTrue};
-ghost use Rattle.access_matrix.specs.Commands.{module_for, privileges_for};
-ghost use Rattle.access_matrix.specs.Passing.{ForSaid, IsAccepted, IsUsed, deletion_of};
+ghost use Rattle.access_matrix.specs.Prelude.{ArePrivilegeBytes, ForSaid, IsAccepted, IsAid, IsInOrder, IsUsed, deletion_of, domain_aid, module_for, privileges_for, same_aid};
 ghost use Rattle.access_matrix.specs.declared.deed.Deed.TheVariants as deed;
-ghost use Rattle.card_types.specs.Aid.{IsAid, same_aid};
-ghost use Rattle.card_types.specs.Represents.{IsInOrder, domain_aid};
-ghost use Rattle.card_types.specs.Privileges.{ArePrivilegeBytes};
 ghost use Rattle.card_types.specs.declared.factory.TheConstants.{FACTORY_FILE};
 
 use crate::acceptance::live_with;

@@ -2,11 +2,7 @@
 
 ghost use Rattle.std.specs.Prelude.{◌&&◌, ℕ, IfSome, IfNone, option_copied};
 ghost use Rattle.std.proofs.lemmas.Cmp.{nat_list_cmp_total, on_total};
-ghost use Rattle.card_types.specs.Aid.{aid_order, same_aid};
-ghost use Rattle.card_types.specs.Search.{is_above};
-ghost use Rattle.card_types.specs.Represents.{HasLayout};
-ghost use Rattle.card_types.specs.Privileges.{has, security_domain};
-ghost use Rattle.access_matrix.specs.Next.{HasDomain, HasEntry, HasFile, HasThing, IsNext, NoneNext};
+ghost use Rattle.access_matrix.specs.Prelude.{HasDomain, HasEntry, HasFile, HasLayout, HasThing, IsNext, NoneNext, aid_order, has, is_above, same_aid, security_domain};
 
 use bitflags::Flags;
 use card_types::{

@@ -2,9 +2,7 @@
 
 ghost use Rattle.std.specs.Prelude.{◌≡◌, ℕ, List};
 ghost use Rattle.access_matrix.specs.Commands as commands;
-ghost use Rattle.access_matrix.specs.Commands.{IsFreeAid};
-ghost use Rattle.card_types.specs.Represents.{IsInOrder, Represents};
-ghost use Rattle.card_types.specs.Registry.{Registry};
+ghost use Rattle.access_matrix.specs.Prelude.{IsFreeAid, IsInOrder, Registry, Represents};
 
 use card_types::{Aid, ENTRIES, FILES, Tables, find};
 

@@ -1,7 +1,6 @@
 //! The laws of the matrix, as functions that do nothing when they run.
 
-ghost use Rattle.access_matrix.specs.Accepted.{AcceptsAsJudged};
-ghost use Rattle.access_matrix.specs.Rights.{NextRightsAreAll};
+ghost use Rattle.access_matrix.specs.Prelude.{AcceptsAsJudged, NextRightsAreAll};
 
 /// Rights that follow one another from the first on, up to one after which there is none, are all rights of a card, each once and in
 /// order.

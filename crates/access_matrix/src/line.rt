@@ -1,9 +1,7 @@
 //! The line of a right.
 
 ghost use Rattle.std.specs.Prelude.{◌≡◌, ◌≤◌, ◌+◌, ◌++◌, []};
-ghost use Rattle.arrayvec.specs.ArrayVec.{array_vec_len};
-ghost use Rattle.access_matrix.specs.Lines.{is_about_locked, line_as, names_room, verb_as};
-ghost use Rattle.access_matrix.specs.Text.{named, names_of};
+ghost use Rattle.access_matrix.specs.Prelude.{array_vec_len, is_about_locked, line_as, named, names_of, names_room, verb_as};
 
 use crate::act::Act;
 use crate::deed::{Deed, Right};

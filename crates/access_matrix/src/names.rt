@@ -1,9 +1,9 @@
 //! Acts and candidates by AIDs.
 
 ghost use Rattle.std.specs.Prelude.{◌≡◌};
-ghost use Rattle.card_types.specs.Represents.{IsInOrder};
-ghost use Rattle.access_matrix.specs.Deeds.{AreUsed, deed_of as named_deed};
-ghost use Rattle.access_matrix.specs.Next.{IsCandidate, right_of as named_right};
+ghost use Rattle.access_matrix.specs.Prelude.{AreUsed, IsCandidate, IsInOrder};
+ghost use Rattle.access_matrix.specs.Deeds.{deed_of as named_deed};
+ghost use Rattle.access_matrix.specs.Next.{right_of as named_right};
 
 use crate::act::Act;
 use crate::candidate::Candidate;

@@ -1,10 +1,7 @@
 //! The next candidate, and the next right.
 
 ghost use Rattle.std.specs.Prelude.{ℕ, List, None, Some, IfSome, IfNone, option_copied, option_map};
-ghost use Rattle.card_types.specs.Represents.{IsInOrder, HasLayout, Represents};
-ghost use Rattle.card_types.specs.Registry.{Registry};
-ghost use Rattle.access_matrix.specs.Next.{HasAllowed, HasCandidate, IsNext, NoneNext, place_order};
-ghost use Rattle.access_matrix.specs.Rights.{place_of};
+ghost use Rattle.access_matrix.specs.Prelude.{HasAllowed, HasCandidate, HasLayout, IsInOrder, IsNext, NoneNext, Registry, Represents, place_of, place_order};
 
 use crate::acts::{first_act, next_act};
 use crate::candidate::Candidate;

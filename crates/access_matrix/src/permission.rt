@@ -1,11 +1,7 @@
 //! Whether a security domain may do a deed.
 
 ghost use Rattle.std.specs.Prelude.{◌↔◌, ℕ, List, IsTrue};
-ghost use Rattle.access_matrix.specs.Deeds.{AreUsed, HoldsDomain, deed_of};
-ghost use Rattle.access_matrix.specs.May.{May};
-ghost use Rattle.access_matrix.specs.Passing.{ForSaid, IsAccepted, IsUsed};
-ghost use Rattle.card_types.specs.Represents.{IsInOrder, Represents, domain_aid};
-ghost use Rattle.card_types.specs.Registry.{Registry};
+ghost use Rattle.access_matrix.specs.Prelude.{AreUsed, ForSaid, HoldsDomain, IsAccepted, IsInOrder, IsUsed, May, Registry, Represents, deed_of, domain_aid};
 
 use crate::acceptance::{is_selectable, offers_session};
 use crate::act::Act;

@@ -1,11 +1,7 @@
 //! The AIDs of things, by their slots.
 
 ghost use Rattle.std.specs.Prelude.{◌≡◌, IsSome};
-ghost use Rattle.access_matrix.specs.Deeds.{found_aid};
-ghost use Rattle.access_matrix.specs.Passing.{IsUsed};
-ghost use Rattle.card_types.specs.Aid.{IsAid};
-ghost use Rattle.card_types.specs.Found.{aid_of};
-ghost use Rattle.card_types.specs.Represents.{IsInOrder, domain_aid, file_aid, held};
+ghost use Rattle.access_matrix.specs.Prelude.{IsAid, IsInOrder, IsUsed, aid_of, domain_aid, file_aid, found_aid, held};
 
 use card_types::{Aid, Found, Tables, in_slot};
 

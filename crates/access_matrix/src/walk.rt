@@ -1,12 +1,7 @@
 //! The rights of a card, line by line.
 
 ghost use Rattle.std.specs.Prelude.{◌≡◌, ◌<◌, ◌≤◌, ℕ, List, false, None, IsTrue, MatchOption};
-ghost use Rattle.arrayvec.specs.ArrayVec.{array_vec_len};
-ghost use Rattle.card_types.specs.Represents.{IsInOrder, Represents};
-ghost use Rattle.card_types.specs.Registry.{Registry};
-ghost use Rattle.access_matrix.specs.Rights.{IsNextRight, NoRightAfter};
-ghost use Rattle.access_matrix.specs.Text.{line_of};
-ghost use Rattle.access_matrix.specs.Walks.{rights_left};
+ghost use Rattle.access_matrix.specs.Prelude.{IsInOrder, IsNextRight, NoRightAfter, Registry, Represents, array_vec_len, line_of, rights_left};
 
 use crate::deed::Right;
 use crate::line::{LINE_ROOM, is_locked, push_right};

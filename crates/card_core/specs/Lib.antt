@@ -21,3 +21,4 @@ pub mod Secured
 pub mod Serves
 pub mod ShownParts
 pub mod StatusChanges
+pub mod Prelude

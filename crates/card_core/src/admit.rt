@@ -1,14 +1,8 @@
 //! What every command passes before the rules of its own are judged (GlobalPlatform Card Specification 2.3.1, 11.1.4).
 
 ghost use Rattle.std.specs.Prelude.{◌≡◌, ◌≢◌, ◌↔◌, IsTrue, false, true, IfOk, IfErr, ℕ, List, None, Some, slice_index_or};
-ghost use Rattle.apdu_core.specs.Apdu.{Short, apdu_of};
-ghost use Rattle.card_core.specs.Domains.{is_domain_in};
-ghost use Rattle.card_core.specs.Serves.{IsTerminatedFor};
-ghost use Rattle.policy_machine.specs.Admission.{GeneralFails, GeneralRefusalLeaves, command_rules, general_rules};
-ghost use Rattle.policy_machine.specs.Classes.{IsKnown, channel_of as channel_of_byte, class_of};
-ghost use Rattle.policy_machine.specs.Refusal.{IsFirst};
-ghost use Rattle.policy_machine.specs.State.{State};
-ghost use Rattle.policy_slots.specs.StateShown.{RepresentsState};
+ghost use Rattle.card_core.specs.Prelude.{GeneralFails, GeneralRefusalLeaves, IsFirst, IsKnown, IsTerminatedFor, RepresentsState, Short, State, apdu_of, class_of, command_rules, general_rules, is_domain_in};
+ghost use Rattle.policy_machine.specs.Classes.{channel_of as channel_of_byte};
 
 use apdu_core::Command;
 use bitflags::Flags;

@@ -1,12 +1,9 @@
 //! An offer under keys of any length (GlobalPlatform Amendment D, 7.1.1).
 
 ghost use Rattle.std.specs.Prelude.{◌≡◌, ◌≤◌, IfOk, IsOk, OnOk, length};
-ghost use Rattle.card_types.specs.KeySets.{HaveKeyLength};
+ghost use Rattle.card_core.specs.Prelude.{HasCryptogram, HasMac, HaveKeyLength, RepresentsOffer, RepresentsSession, answered, card_cryptogram, offered};
 ghost use Rattle.card_types.specs.declared.limits.TheConstants.{COUNTER_LIMIT};
-ghost use Rattle.scp03_card.specs.Kept.{RepresentsOffer, RepresentsSession};
 ghost use Rattle.scp03_card.specs.Offer as model;
-ghost use Rattle.scp03_card.specs.Offer.{card_cryptogram, offered};
-ghost use Rattle.scp03_card.specs.Session.{HasCryptogram, HasMac, answered};
 
 use crate::aes_kind::AesKind;
 use crate::aes_session::AesSession;

@@ -1,14 +1,7 @@
 //! A session under keys of any length (GlobalPlatform Amendment D, 6.2).
 
 ghost use Rattle.std.specs.Prelude.{◌≡◌, ℕ, ◌+◌, ◌≤◌, ◌↔◌, IsTrue, List, length, take, IfOk, OnOk, OnErr};
-ghost use Rattle.apdu_core.specs.Apdu.{apdu_of};
-ghost use Rattle.arrayvec.specs.ArrayVec.{array_vec_len};
-ghost use Rattle.card_types.specs.Well.{IsKeyLength};
-ghost use Rattle.policy_machine.specs.PutKey.{IsKeySent, check_value, sealed_size};
-ghost use Rattle.policy_rules.specs.Requests.{sent_key};
-ghost use Rattle.scp03_card.specs.Kept.{RepresentsSession};
-ghost use Rattle.scp03_card.specs.Opens.{Gives, IsAuthentic, Opens, accepting, field_of};
-ghost use Rattle.scp03_card.specs.Protected.{protected};
+ghost use Rattle.card_core.specs.Prelude.{Gives, IsAuthentic, IsKeyLength, IsKeySent, Opens, RepresentsSession, accepting, apdu_of, array_vec_len, check_value, field_of, protected, sealed_size, sent_key};
 ghost use Rattle.scp03_card.specs.Session as model;
 ghost use Rattle.scp03_card.specs.declared.close.TheConstants.{DATA_LIMIT};
 

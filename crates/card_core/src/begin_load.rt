@@ -1,11 +1,8 @@
 //! INSTALL [for load]: a load session begins (GlobalPlatform Card Specification 2.3.1, 9.3.1 and 11.5).
 
 ghost use Rattle.std.specs.Prelude.{◌≡◌, ◌≤◌, [], OnErr, length};
-ghost use Rattle.card_core.specs.Loads.{LoadsAs};
-ghost use Rattle.card_types.specs.Represents.{IsInOrder};
-ghost use Rattle.policy_rules.specs.Requests.{IsRequestOf, IsWellFormed};
+ghost use Rattle.card_core.specs.Prelude.{ForActingLive, IsInOrder, IsRequestOf, IsWellFormed, LoadsAs};
 ghost use Rattle.policy_rules.specs.declared.request.Request.TheVariants.{InstallLoad};
-ghost use Rattle.policy_slots.specs.StateShown.{ForActingLive};
 ghost use Rattle.scp03_card.specs.declared.close.TheConstants.{DATA_LIMIT};
 
 use crate::loading::Loading;

@@ -1,23 +1,8 @@
 //! A card (GlobalPlatform Card Specification 2.3.1, chapter 6).
 
 ghost use Rattle.std.specs.Prelude.{◌≡◌, ◌≤◌, List, [], ◌∷◌, false, true, None, IfOk, IfErr, IsSome, OnErr, OnOk};
-ghost use Rattle.apdu_core.specs.Reply.{status_bytes};
-ghost use Rattle.card_core.specs.Card.{Answers, LeavesEither, CardRepresents};
-ghost use Rattle.card_core.specs.Commits.{MayCommit};
-ghost use Rattle.card_core.specs.Kept.{AreCards};
-ghost use Rattle.card_core.specs.PowerOn.{PowerFails};
+ghost use Rattle.card_core.specs.Prelude.{Always, Answers, AreCards, CardRepresents, Changes, CountsReceipts, HasCause, IsAtRest, IsInOrder, IsUnwritten, KeepsTrees, LeavesEither, LeavesOnly, MayCommit, OpensInSession, Outcome, PowerFails, Registry, Reopens, ReopensAsOne, State, Step, powered_on, status_bytes};
 ghost use Rattle.card_core.specs.declared.channel_session.ChannelSession.TheVariants as holding;
-ghost use Rattle.card_types.specs.Represents.{IsInOrder};
-ghost use Rattle.card_types.specs.Registry.{Registry};
-ghost use Rattle.faults.specs.Faults.{HasCause};
-ghost use Rattle.page_journal.specs.Moments.{Always, LeavesOnly};
-ghost use Rattle.policy_machine.specs.Changes.{Changes, OpensInSession};
-ghost use Rattle.policy_machine.specs.Receipts.{CountsReceipts};
-ghost use Rattle.policy_machine.specs.RunsApart.{KeepsTrees};
-ghost use Rattle.policy_machine.specs.State.{State, powered_on};
-ghost use Rattle.policy_machine.specs.Step.{Outcome, Step};
-ghost use Rattle.rec_store.specs.Contents.{IsUnwritten};
-ghost use Rattle.rec_store.specs.Reopens.{IsAtRest, Reopens, ReopensAsOne};
 
 use crate::channel_session::ChannelSession;
 use crate::commit::commit;

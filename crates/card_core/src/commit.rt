@@ -1,14 +1,7 @@
 //! What a command changed is committed (this profile's own).
 
 ghost use Rattle.std.specs.Prelude.{◌≡◌, [], All, OnOk, true};
-ghost use Rattle.card_core.specs.Kept.{AreCards};
-ghost use Rattle.card_types.specs.Registry.{Registry};
-ghost use Rattle.card_types.specs.Represents.{Represents};
-ghost use Rattle.page_journal.specs.Pages.{IsLoadPage};
-ghost use Rattle.faults.specs.Faults.{HasCause};
-ghost use Rattle.load_session.specs.Loaded.{loaded, numbers};
-ghost use Rattle.page_journal.specs.Moments.{LeavesOnly};
-ghost use Rattle.rec_store.specs.Reopens.{AreSpare, IsSpare, Keeps, ReopensEither, load_page};
+ghost use Rattle.card_core.specs.Prelude.{AreCards, AreSpare, HasCause, IsLoadPage, IsSpare, Keeps, LeavesOnly, Registry, ReopensEither, Represents, load_page, loaded, numbers};
 
 use flash_core::{Flash, FlashFailed};
 use load_session::{LoadWrite, write_pages};

@@ -3,17 +3,9 @@
 
 ghost use Rattle.std.specs.Prelude.{◌≡◌, ◌⊎◌, ◌≤◌, ◌+◌, ◌++◌, ℕ, List, [], IfSome, length, true};
 ghost use Rattle.std.specs.Option.{option_copied};
-ghost use Rattle.card_core.specs.Confirms.{Confirms, IsReceiptIn, IsUniqueIn, IsValueIn};
-ghost use Rattle.card_core.specs.Kept.{AreCards};
-ghost use Rattle.card_core.specs.Manages.{KeepsAids};
-ghost use Rattle.card_types.specs.Represents.{IsInOrder};
-ghost use Rattle.card_types.specs.KeySets.{HasKey};
-ghost use Rattle.card_types.specs.Well.{IsKeyLength};
-ghost use Rattle.policy_slots.specs.HoldersFound.{MayReceipt};
-ghost use Rattle.rec_store.specs.Room.{HasRoomFor};
-ghost use Rattle.registry.specs.Pages.{entry_pages};
+ghost use Rattle.card_core.specs.Prelude.{AreCards, Confirms, HasKey, HasRoomFor, IsInOrder, IsKeyLength, IsReceiptIn, IsUniqueIn, IsValueIn, KeepsAids, MayReceipt, aids_of, entry_pages};
+ghost use Rattle.tokens_receipts.specs.Receipt.{receipt as receipt_of};
 ghost use Rattle.scp03_card.specs.declared.close.TheConstants.{DATA_LIMIT};
-ghost use Rattle.tokens_receipts.specs.Receipt.{aids_of, receipt as receipt_of};
 
 use crate::reply::REPLY_LIMIT;
 use crate::store_data::Tagged;

@@ -2,20 +2,9 @@
 //! 9.5 and 11.2).
 
 ghost use Rattle.std.specs.Prelude.{◌≡◌, ◌≢◌, ℕ, List, [], true, IsSome, Some};
-ghost use Rattle.card_core.specs.Deletes.{LeavesOthers, RemovesLoaded};
-ghost use Rattle.card_core.specs.Kept.{AreCards};
-ghost use Rattle.card_core.specs.Manages.{KeepsFree};
-ghost use Rattle.card_types.specs.Found.{aid_of};
-ghost use Rattle.card_types.specs.Registry.{Registry};
-ghost use Rattle.card_types.specs.RegistryChange.{without_applications, without_file};
-ghost use Rattle.card_types.specs.Represents.{Represents, file_aid, held};
-ghost use Rattle.card_types.specs.Well.{Well};
+ghost use Rattle.card_core.specs.Prelude.{AreCards, HasNoneFrom, HasRoomFor, IsAlone, IsRemovable, KeepsFree, LeavesOthers, Registry, RemovesLoaded, Represents, Well, aid_of, entry_pages, file_aid, held, without_applications, without_file, without_thing};
 ghost use Rattle.card_types.specs.declared.factory.TheConstants.{FACTORY_FILE};
-ghost use Rattle.policy_machine.specs.DeleteObject.{without_thing};
-ghost use Rattle.content_rules.specs.DeleteObjectFound.{HasNoneFrom, IsAlone, IsRemovable};
 ghost use Rattle.policy_rules.specs.declared.request.Request.TheVariants.{DeleteObject};
-ghost use Rattle.rec_store.specs.Room.{HasRoomFor};
-ghost use Rattle.registry.specs.Pages.{entry_pages};
 
 use crate::channel_session::ChannelSession;
 use crate::confirm::confirm;

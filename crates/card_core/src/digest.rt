@@ -2,17 +2,7 @@
 
 ghost use Rattle.std.specs.Prelude.{◌≡◌, ◌<◌, ◌≤◌, ◌++◌, ◌+◌, ◌/◌, ℕ, List, false, true, map, take, IfOk, IfSome, IsSome, OnErr, OnOk};
 ghost use Rattle.std.specs.List.{concat};
-ghost use Rattle.card_check.specs.IsCard.{IsInLoadPages};
-ghost use Rattle.card_core.specs.Card.{CardRepresents};
-ghost use Rattle.card_core.specs.LoadRead.{IsLoadRead};
-ghost use Rattle.card_types.specs.Represents.{file_of, held};
-ghost use Rattle.faults.specs.Faults.{HasCause};
-ghost use Rattle.page_journal.specs.Moments.{LeavesOnly};
-ghost use Rattle.page_journal.specs.Pages.{IsLoadPage};
-ghost use Rattle.policy_machine.specs.State.{State};
-ghost use Rattle.rec_store.specs.Reopens.{Reopens, load_page};
-ghost use Rattle.sha2.specs.Hashers.{Holds256};
-ghost use Rattle.sha2.specs.Sha256.{sha256};
+ghost use Rattle.card_core.specs.Prelude.{CardRepresents, HasCause, Holds256, IsInLoadPages, IsLoadPage, IsLoadRead, LeavesOnly, Reopens, State, file_of, held, load_page, sha256};
 
 use crate::card::Card;
 use card_types::{LoadFile, in_slot};

@@ -2,12 +2,7 @@
 //! with all that is below it (GlobalPlatform Card Specification 2.3.1, 5.3 and 11.10).
 
 ghost use Rattle.std.specs.Prelude.{◌≡◌, ℕ, List, [], true, IsSome};
-ghost use Rattle.card_core.specs.StatusChanges.{MakesChange, SaysChange, StagesOthers};
-ghost use Rattle.card_types.specs.Registry.{Registry};
-ghost use Rattle.card_types.specs.Represents.{Represents, held};
-ghost use Rattle.card_types.specs.Well.{Well};
-ghost use Rattle.domain_tree.specs.Slots.{IsFreeOfLoops};
-ghost use Rattle.policy_rules.specs.SetStatusRequests.{IsOther, slot_of};
+ghost use Rattle.card_core.specs.Prelude.{IsFreeOfLoops, IsOther, MakesChange, Registry, Represents, SaysChange, StagesOthers, Well, held, slot_of};
 ghost use Rattle.policy_rules.specs.declared.request.Request.TheVariants.{EntryStatus};
 
 use crate::channel_session::ChannelSession;

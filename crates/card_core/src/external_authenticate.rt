@@ -1,13 +1,10 @@
 //! EXTERNAL AUTHENTICATE: an offer becomes a session (GlobalPlatform Amendment D, 7.1.2).
 
 ghost use Rattle.std.specs.Prelude.{◌≡◌, IfErr, OnOk};
-ghost use Rattle.card_core.specs.Kept.{IsOffered};
-ghost use Rattle.card_core.specs.Offers.{AnswersAs, HoldsFor};
-ghost use Rattle.policy_machine.specs.Admission.{Admitted};
+ghost use Rattle.card_core.specs.Prelude.{Admitted, AnswersAs, HoldsFor, IsOffered, IsRequestOf, IsWellFormed};
 ghost use Rattle.policy_machine.specs.declared.external_authenticate.RuleEA.TheVariants.{EA1};
 ghost use Rattle.policy_machine.specs.declared.instruction.TheConstants.{EXTERNAL_AUTHENTICATE};
 ghost use Rattle.policy_machine.specs.declared.rule.Rule.TheVariants.{EA};
-ghost use Rattle.policy_rules.specs.Requests.{IsRequestOf, IsWellFormed};
 ghost use Rattle.policy_rules.specs.declared.request.Request.TheVariants.{Authenticate};
 
 use crate::channel_session::ChannelSession;

@@ -1,10 +1,8 @@
 //! The factory card on a device (this profile's own).
 
 ghost use Rattle.std.specs.Prelude.{◌≡◌, ◌<◌, ℕ, OnOk, slice_get};
-ghost use Rattle.card_types.specs.Factory.{factory_registry};
-ghost use Rattle.faults.specs.Faults.{HasCause};
+ghost use Rattle.card_core.specs.Prelude.{HasCause, Keeps, factory_registry};
 ghost use Rattle.page_journal.specs.declared.pages.TheConstants.{GATE};
-ghost use Rattle.rec_store.specs.Reopens.{Keeps};
 
 use card_types::{CardLife, factory_file, factory_key, issuer_domain};
 use flash_core::{Flash, FlashFailed};

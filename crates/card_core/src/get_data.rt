@@ -1,19 +1,8 @@
 //! GET DATA: data of the selected domain are answered (GlobalPlatform Card Specification 2.3.1, 11.3).
 
 ghost use Rattle.std.specs.Prelude.{◌≡◌, ◌≤◌, ◌<◌, ◌+◌, ◌++◌, ℕ, List, [], ◌∷◌, length, None, Some, slice_index_or};
-ghost use Rattle.arrayvec.specs.ArrayVec.{array_vec_len};
-ghost use Rattle.bertlv.specs.Spelling.{Spelling};
-ghost use Rattle.bertlv.specs.Tag.{IsTag};
-ghost use Rattle.card_core.specs.Domains.{ForEntry};
-ghost use Rattle.card_core.specs.Kept.{ForShown, kept_of};
-ghost use Rattle.card_core.specs.Serves.{CarriesOutBut};
-ghost use Rattle.card_types.specs.Represents.{IsInOrder};
-ghost use Rattle.card_types.specs.Search.{IsLeast};
-ghost use Rattle.policy_machine.specs.GetData.{HasData, IsKeyInformation};
-ghost use Rattle.policy_rules.specs.Found.{IsFor};
-ghost use Rattle.policy_rules.specs.Requests.{IsRequestOf};
+ghost use Rattle.card_core.specs.Prelude.{CarriesOutBut, ForEntry, ForShown, HasData, IsFor, IsInOrder, IsKeyInformation, IsLeast, IsRequestOf, IsTag, Spelling, array_vec_len, follows, kept_of, name_order};
 ghost use Rattle.policy_rules.specs.declared.request.Request.TheVariants.{Get};
-ghost use Rattle.policy_slots.specs.KeyOrder.{follows, name_order};
 ghost use Rattle.scp03_card.specs.declared.close.TheConstants.{DATA_LIMIT};
 
 use crate::reply::REPLY_LIMIT;

@@ -1,18 +1,8 @@
 //! GET STATUS: the registry is listed, in as many parts as it takes (GlobalPlatform Card Specification 2.3.1, 11.4).
 
 ghost use Rattle.std.specs.Prelude.{◌≡◌, ◌+◌, ◌<◌, ◌≤◌, ◌++◌, ℕ, List, [], IfNone, IfSome, IsSome, OnErr, length, option_copied};
-ghost use Rattle.card_core.specs.Lists.{Lists};
-ghost use Rattle.card_core.specs.Serves.{IsAsked};
-ghost use Rattle.card_core.specs.ShownParts.{IsPart};
-ghost use Rattle.card_types.specs.Found.{aid_of};
-ghost use Rattle.card_types.specs.Represents.{IsInOrder};
-ghost use Rattle.card_types.specs.Registry.{Registry};
-ghost use Rattle.policy_machine.specs.Admission.{Admitted};
-ghost use Rattle.policy_machine.specs.GetStatus.{IsTemplate, Thing};
-ghost use Rattle.policy_rules.specs.GetStatusRequests.{IsFirstShown, IsListOf, IsThingAt};
-ghost use Rattle.policy_rules.specs.Requests.{IsWellFormed};
+ghost use Rattle.card_core.specs.Prelude.{ActsIn, Admitted, ForActing, IsAsked, IsFirstShown, IsInOrder, IsListOf, IsPart, IsTemplate, IsThingAt, IsWellFormed, Lists, Registry, RepresentsState, Thing, aid_of};
 ghost use Rattle.policy_rules.specs.declared.request.Request.TheVariants.{List as ListStatus};
-ghost use Rattle.policy_slots.specs.StateShown.{ActsIn, ForActing, RepresentsState};
 ghost use Rattle.scp03_card.specs.declared.close.TheConstants.{DATA_LIMIT};
 
 use crate::reply::REPLY_LIMIT;

@@ -1,19 +1,9 @@
 //! INITIALIZE UPDATE: a session is offered (GlobalPlatform Amendment D, 7.1.1).
 
 ghost use Rattle.std.specs.Prelude.{◌≡◌, ◌≤◌, ℕ, true, List, [], length, None, Some, IfSome, IfNone, OnErr};
-ghost use Rattle.card_core.specs.Domains.{ForEntry};
-ghost use Rattle.card_core.specs.Kept.{AreCards};
-ghost use Rattle.card_core.specs.Offers.{OffersAs};
-ghost use Rattle.card_types.specs.Represents.{IsInOrder, counter_of};
-ghost use Rattle.card_types.specs.Registry.{object_named};
+ghost use Rattle.card_core.specs.Prelude.{ActsIn, Admitted, AreCards, ForEntry, IsDataObject, IsInOrder, IsRequestOf, OffersAs, RepresentsOffer, counter_of, diversification_of, object_named, offer_body};
 ghost use Rattle.card_types.specs.declared.limits.TheConstants.{COUNTER_LIMIT};
-ghost use Rattle.policy_machine.specs.Admission.{Admitted};
-ghost use Rattle.policy_machine.specs.GetData.{IsDataObject};
-ghost use Rattle.policy_machine.specs.InitializeUpdate.{diversification_of, offer_body};
-ghost use Rattle.policy_rules.specs.Requests.{IsRequestOf};
 ghost use Rattle.policy_rules.specs.declared.request.Request.TheVariants.{Initialize};
-ghost use Rattle.policy_slots.specs.StateShown.{ActsIn};
-ghost use Rattle.scp03_card.specs.Kept.{RepresentsOffer};
 ghost use Rattle.scp03_card.specs.Offer as model;
 ghost use Rattle.scp03_card.specs.declared.close.TheConstants.{DATA_LIMIT};
 

@@ -1,10 +1,7 @@
 //! The judgement of a request over what a card keeps (GlobalPlatform Card Specification 2.3.1, chapter 9).
 
 ghost use Rattle.std.specs.Prelude.{◌≡◌, ◌≤◌, None, Some, true, IfErr, IfOk, IfSome, OnOk, length};
-ghost use Rattle.card_core.specs.Kept.{AreCards};
-ghost use Rattle.policy_machine.specs.ManagedForm.{JudgedFirst};
-ghost use Rattle.policy_slots.specs.StateShown.{ForActing};
-ghost use Rattle.policy_slots.specs.HoldersFound.{FindsConfirmer, MayReceipt};
+ghost use Rattle.card_core.specs.Prelude.{AreCards, FindsConfirmer, ForActing, JudgedFirst, MayReceipt};
 
 use flash_core::Flash;
 use policy_rules::{Judged, JudgedRequest, Live, Rule, judge_request};

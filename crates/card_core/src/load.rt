@@ -2,21 +2,8 @@
 //! Specification 2.3.1, 9.3.5 and 11.6).
 
 ghost use Rattle.std.specs.Prelude.{◌≡◌, ◌≤◌, ℕ, List, [], IfOk, IfErr, IfSome, OnErr, OnOk, Some, None, length, true};
-ghost use Rattle.card_core.specs.Kept.{AreCards};
-ghost use Rattle.card_core.specs.Loading.{AreFree, with_due};
-ghost use Rattle.card_core.specs.Loads.{ForBlock, ForLoading, HoldsLoad, LoadsAs, block_in, block_rule};
-ghost use Rattle.card_types.specs.Represents.{IsInOrder};
-ghost use Rattle.card_types.specs.Privileges.{delegated_management};
-ghost use Rattle.load_session.specs.Session.{IsBlockTaken};
-ghost use Rattle.policy_machine.specs.Admission.{Admitted};
-ghost use Rattle.policy_machine.specs.Delegation.{Holds};
-ghost use Rattle.policy_machine.specs.Refusal.{IsFirst};
-ghost use Rattle.policy_machine.specs.Load.{LoadFails, load_rules};
-ghost use Rattle.policy_rules.specs.Requests.{IsRequestOf, IsWellFormed};
+ghost use Rattle.card_core.specs.Prelude.{ActsIn, Admitted, AreCards, AreFree, AreRoomy, FindsConfirmer, ForBlock, ForLoading, Holds, HoldsLoad, IsBlockTaken, IsFirst, IsInOrder, IsRequestOf, IsWellFormed, LoadFails, LoadsAs, MayReceipt, block_in, block_rule, delegated_management, load_rules, with_due};
 ghost use Rattle.policy_rules.specs.declared.request.Request.TheVariants.{Load};
-ghost use Rattle.policy_slots.specs.StateShown.{ActsIn};
-ghost use Rattle.policy_slots.specs.HoldersFound.{FindsConfirmer, MayReceipt};
-ghost use Rattle.rec_store.specs.StoredTables.{AreRoomy};
 ghost use Rattle.scp03_card.specs.declared.close.TheConstants.{DATA_LIMIT};
 
 use crate::loaded_file::add_loaded;

@@ -1,17 +1,8 @@
 //! An Executable Load File that has come is added (GlobalPlatform Card Specification 2.3.1, 9.3.5 and 11.6).
 
 ghost use Rattle.std.specs.Prelude.{◌≡◌, ◌+◌, ◌≤◌, [], IfSome, length, true};
-ghost use Rattle.card_check.specs.IsCard.{IsInLoadPages, pages_named};
-ghost use Rattle.card_core.specs.Domains.{is_domain_in};
-ghost use Rattle.card_core.specs.Kept.{AreCards};
-ghost use Rattle.card_core.specs.LoadedFile.{AddsLoaded};
-ghost use Rattle.card_core.specs.Manages.{KeepsAids};
-ghost use Rattle.card_types.specs.Search.{NoneFree};
-ghost use Rattle.card_types.specs.Well.{pages_of};
+ghost use Rattle.card_core.specs.Prelude.{AddsLoaded, AreCards, AreOwn, IsInLoadPages, KeepsAids, MayReceipt, NoneFree, NoneHas, is_domain_in, pages_in, pages_named, pages_of};
 ghost use Rattle.card_types.specs.declared.limits.TheConstants.{LOAD_PAGES};
-ghost use Rattle.load_session.specs.Pages.{AreOwn, pages_in};
-ghost use Rattle.policy_slots.specs.HoldersFound.{MayReceipt};
-ghost use Rattle.registry.specs.Adding.{NoneHas};
 ghost use Rattle.scp03_card.specs.declared.close.TheConstants.{DATA_LIMIT};
 
 use crate::confirm::confirm;

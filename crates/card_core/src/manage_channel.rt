@@ -1,12 +1,8 @@
 //! MANAGE CHANNEL: a channel is opened or closed (GlobalPlatform Card Specification 2.3.1, 11.7).
 
 ghost use Rattle.std.specs.Prelude.{◌≡◌, ◌≤◌, ◌<◌, ℕ, List, [], length};
-ghost use Rattle.card_core.specs.Kept.{ForShown, RepresentsSoundly, kept_of};
-ghost use Rattle.card_core.specs.Serves.{CarriesOutBut};
-ghost use Rattle.card_types.specs.Represents.{HasLayout};
+ghost use Rattle.card_core.specs.Prelude.{Admitted, CarriesOutBut, ForShown, HasLayout, IsRequestOf, RepresentsSoundly, kept_of};
 ghost use Rattle.card_types.specs.declared.tables.Tables.{Tables};
-ghost use Rattle.policy_machine.specs.Admission.{Admitted};
-ghost use Rattle.policy_rules.specs.Requests.{IsRequestOf};
 ghost use Rattle.policy_rules.specs.declared.request.Request.TheVariants.{MoreChannel, LessChannel};
 ghost use Rattle.scp03_card.specs.declared.close.TheConstants.{DATA_LIMIT};
 

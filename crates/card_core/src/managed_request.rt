@@ -1,13 +1,8 @@
 //! A request of card content management that changes the registry (GlobalPlatform Card Specification 2.3.1, chapter 9).
 
 ghost use Rattle.std.specs.Prelude.{◌≡◌, ◌≤◌, [], OnErr, length, true};
-ghost use Rattle.card_core.specs.Domains.{is_domain_in};
-ghost use Rattle.card_core.specs.Kept.{AreCards, IsInSession};
-ghost use Rattle.card_core.specs.Manages.{KeepsFree, KeepsSelected, Manages};
-ghost use Rattle.card_core.specs.Offers.{HoldsFor};
-ghost use Rattle.policy_rules.specs.Requests.{IsRequestOf, IsWellFormed};
+ghost use Rattle.card_core.specs.Prelude.{AreCards, ForActingLive, HoldsFor, IsInSession, IsRequestOf, IsWellFormed, KeepsFree, KeepsSelected, Manages, is_domain_in};
 ghost use Rattle.policy_rules.specs.declared.request.Request.{Request};
-ghost use Rattle.policy_slots.specs.StateShown.{ForActingLive};
 ghost use Rattle.scp03_card.specs.declared.close.TheConstants.{DATA_LIMIT};
 
 use crate::channel_session::ChannelSession;

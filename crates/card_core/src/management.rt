@@ -2,13 +2,9 @@
 //! chapter 9).
 
 ghost use Rattle.std.specs.Prelude.{◌≡◌, ◌≢◌, ◌<◌, ◌≤◌, [], None, Some, Contains, Option, OnErr, length, slice_index_or, true};
-ghost use Rattle.card_core.specs.Domains.{is_domain_in};
-ghost use Rattle.card_core.specs.Kept.{AreCards, kept_of, IsInSession, held_on};
-ghost use Rattle.card_core.specs.Serves.{AsksForLoad, CarriesOn, ForAsked};
+ghost use Rattle.card_core.specs.Prelude.{AreCards, AsksForLoad, CarriesOn, ForAsked, IsInSession, IsWellFormed, changing, form_in, held_on, is_domain_in, kept_of, managing};
 ghost use Rattle.load_session.specs.declared.session.LoadSession.{LoadSession};
-ghost use Rattle.policy_machine.specs.Classes.{changing, managing};
 ghost use Rattle.policy_machine.specs.declared.instruction.TheConstants.{MANAGE_CHANNEL, SELECT};
-ghost use Rattle.policy_rules.specs.Requests.{IsWellFormed, form_in};
 ghost use Rattle.policy_slots.specs.declared.live.Place.{Place};
 ghost use Rattle.scp03_card.specs.declared.close.TheConstants.{DATA_LIMIT};
 

@@ -1,10 +1,7 @@
 //! A key that was sent under a Key-DEK (GlobalPlatform Card Specification 2.3.1, 11.8; Amendment D, 7.2).
 
 ghost use Rattle.std.specs.Prelude.{◌≡◌, ◌≤◌, ◌↔◌, IsTrue, length, take};
-ghost use Rattle.cmac_kdf.specs.Blocks.{IsBytes};
-ghost use Rattle.card_types.specs.Well.{IsKeyLength};
-ghost use Rattle.policy_machine.specs.PutKey.{IsKeySent, check_value, sealed_size};
-ghost use Rattle.policy_rules.specs.Requests.{sent_key};
+ghost use Rattle.card_core.specs.Prelude.{IsBytes, IsKeyLength, IsKeySent, check_value, sealed_size, sent_key};
 
 use aes_block::{BlockKey, SealingAes128, SealingAes192, SealingAes256};
 use arrayvec::ArrayVec;

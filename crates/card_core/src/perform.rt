@@ -1,13 +1,8 @@
 //! What a request asks for is done (GlobalPlatform Card Specification 2.3.1, chapter 11).
 
 ghost use Rattle.std.specs.Prelude.{◌≡◌, ◌⊎◌, ◌≤◌, [], length, true, Contains, OnErr, option_copied};
-ghost use Rattle.card_core.specs.Kept.{AreCards, kept_of, IsOffered, held_on};
-ghost use Rattle.card_core.specs.Loading.{AreFree, RepresentsSome, with_due};
-ghost use Rattle.card_core.specs.Ready.{IsReady};
-ghost use Rattle.card_core.specs.Serves.{CarriesOn, ForAsked};
-ghost use Rattle.policy_machine.specs.Classes.{changing, managing};
+ghost use Rattle.card_core.specs.Prelude.{AreCards, AreFree, CarriesOn, ForAsked, IsOffered, IsReady, IsWellFormed, RepresentsSome, changing, form_in, held_on, kept_of, managing, with_due};
 ghost use Rattle.policy_machine.specs.declared.instruction.TheConstants.{EXTERNAL_AUTHENTICATE, GET_DATA, INITIALIZE_UPDATE};
-ghost use Rattle.policy_rules.specs.Requests.{IsWellFormed, form_in};
 ghost use Rattle.scp03_card.specs.declared.close.TheConstants.{DATA_LIMIT};
 
 use crate::admit::Received;

@@ -1,13 +1,8 @@
 //! What a command asks for, by the rules on its form (GlobalPlatform Card Specification 2.3.1, chapter 11).
 
 ghost use Rattle.std.specs.Prelude.{◌≡◌, IfErr, IfOk, OnOk, Some};
-ghost use Rattle.apdu_core.specs.Apdu.{apdu_of};
-ghost use Rattle.card_core.specs.Offers.{HoldsFor};
-ghost use Rattle.card_core.specs.Kept.{IsOffered};
-ghost use Rattle.policy_machine.specs.Admission.{Admitted};
-ghost use Rattle.policy_machine.specs.Commands.{IsBuilt, Judges};
+ghost use Rattle.card_core.specs.Prelude.{Admitted, HoldsFor, IsBuilt, IsOffered, IsRequestOf, Judges, apdu_of};
 ghost use Rattle.policy_machine.specs.declared.instruction.TheConstants.{EXTERNAL_AUTHENTICATE};
-ghost use Rattle.policy_rules.specs.Requests.{IsRequestOf};
 
 use crate::channel_session::ChannelSession;
 use crate::external_authenticate::judge_offer;

@@ -1,8 +1,7 @@
 //! The end of a reply (ISO/IEC 7816-4:2013, 5.6).
 
 ghost use Rattle.std.specs.Prelude.{◌≡◌, ◌≤◌, ◌+◌, ◌++◌};
-ghost use Rattle.arrayvec.specs.ArrayVec.{array_vec_len};
-ghost use Rattle.apdu_core.specs.Reply.{status_bytes};
+ghost use Rattle.card_core.specs.Prelude.{array_vec_len, status_bytes};
 
 use apdu_core::Status;
 use arrayvec::ArrayVec;

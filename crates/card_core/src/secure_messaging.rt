@@ -1,13 +1,7 @@
 //! Secure messaging: what a protected command is in plain, and the reply to it (GlobalPlatform Amendment D, 6.2).
 
 ghost use Rattle.std.specs.Prelude.{◌≡◌, ◌≤◌, length, IfOk, OnOk};
-ghost use Rattle.arrayvec.specs.ArrayVec.{array_vec_len};
-ghost use Rattle.apdu_core.specs.Apdu.{apdu_of};
-ghost use Rattle.card_core.specs.Kept.{RepresentsSecureChannel, IsInSession};
-ghost use Rattle.card_core.specs.Secured.{OpensAs};
-ghost use Rattle.policy_machine.specs.State.{Secured, SecureChannel};
-ghost use Rattle.scp03_card.specs.Protected.{protected};
-ghost use Rattle.scp03_card.specs.Session.{Session};
+ghost use Rattle.card_core.specs.Prelude.{IsInSession, OpensAs, RepresentsSecureChannel, SecureChannel, Secured, Session, apdu_of, array_vec_len, protected};
 ghost use Rattle.scp03_card.specs.declared.close.TheConstants.{DATA_LIMIT};
 
 use crate::channel_session::ChannelSession;

@@ -1,11 +1,8 @@
 //! SELECT: an entry is selected on a channel (GlobalPlatform Card Specification 2.3.1, 11.9 and chapter 6).
 
 ghost use Rattle.std.specs.Prelude.{◌≡◌, ◌≤◌, ◌<◌, [], length, slice_set};
-ghost use Rattle.card_types.specs.Represents.{IsInOrder};
-ghost use Rattle.card_core.specs.Kept.{ForShown, kept_of, held_on};
-ghost use Rattle.card_core.specs.Serves.{CarriesOutBut};
-ghost use Rattle.policy_machine.specs.Select.{IsControlInformation, selected_status as status_by};
-ghost use Rattle.policy_rules.specs.Requests.{IsRequestOf};
+ghost use Rattle.card_core.specs.Prelude.{CarriesOutBut, ForShown, IsControlInformation, IsInOrder, IsRequestOf, held_on, kept_of};
+ghost use Rattle.policy_machine.specs.Select.{selected_status as status_by};
 ghost use Rattle.policy_rules.specs.declared.request.Request.TheVariants.{Select};
 ghost use Rattle.scp03_card.specs.declared.close.TheConstants.{DATA_LIMIT};
 

@@ -1,23 +1,9 @@
 //! What is done with a command (GlobalPlatform Card Specification 2.3.1, chapter 11).
 
 ghost use Rattle.std.specs.Prelude.{◌≡◌, ◌⊎◌, ◌<◌, ◌≤◌, ◌++◌, ◌==◌, ℕ, List, [], length, false, true, None, Some, Option, IsSome, Contains, OnOk, OnErr, IfOk, IfErr, IfSome, option_copied, slice_index_or, slice_set};
-ghost use Rattle.apdu_core.specs.Apdu.{apdu_of};
-ghost use Rattle.apdu_core.specs.Reply.{status_bytes};
-ghost use Rattle.card_check.specs.IsCard.{HasPages};
-ghost use Rattle.card_core.specs.Commits.{MayCommit};
-ghost use Rattle.card_core.specs.Kept.{AreCards, kept_of, RepresentsSecureChannel, IsInSession, held_on, held_passed, without_offer_held};
-ghost use Rattle.card_core.specs.Loading.{AreFree, RepresentsAll, RepresentsSome};
-ghost use Rattle.card_core.specs.Ready.{IsReady};
-ghost use Rattle.card_core.specs.Passes.{Bars, ForCome, IsOpenedIn, Passes, plain_of};
-ghost use Rattle.card_core.specs.Serves.{CarriesOutLoading, ForPassed, IsPassedOver, IsTerminatedFor, ServesLoading, live_passed, live_refused, rule_of, status_word};
-ghost use Rattle.policy_machine.specs.Classes.{IsKnown, changing, class_of, is_protected as is_protected_command, managing};
-ghost use Rattle.policy_machine.specs.Commands.{IsBuilt};
-ghost use Rattle.policy_machine.specs.State.{State, Secured};
-ghost use Rattle.policy_machine.specs.Step.{sent};
+ghost use Rattle.card_core.specs.Prelude.{AreCards, AreFree, Bars, CarriesOutLoading, ForCome, ForPassed, HasPages, IsBuilt, IsInSession, IsKnown, IsOpenedIn, IsPassedOver, IsReady, IsTerminatedFor, MayCommit, Passes, RepresentsAll, RepresentsSecureChannel, RepresentsSome, Secured, ServesLoading, Session, State, apdu_of, changing, class_of, held_on, held_passed, kept_of, live_passed, live_refused, live_without_place, managing, plain_of, protected, rule_of, sent, status_bytes, status_word, without_offer_held};
+ghost use Rattle.policy_machine.specs.Classes.{is_protected as is_protected_command};
 ghost use Rattle.policy_machine.specs.declared.instruction.TheConstants.{GET_DATA, GET_STATUS, INITIALIZE_UPDATE};
-ghost use Rattle.policy_slots.specs.LiveEnds.{live_without_place};
-ghost use Rattle.scp03_card.specs.Protected.{protected};
-ghost use Rattle.scp03_card.specs.Session.{Session};
 ghost use Rattle.scp03_card.specs.declared.close.TheConstants.{DATA_LIMIT};
 
 use crate::admit::{Received, admit, is_over};

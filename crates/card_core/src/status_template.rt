@@ -1,16 +1,8 @@
 //! The template of a thing that GET STATUS lists (GlobalPlatform Card Specification 2.3.1, 11.4.3.1).
 
 ghost use Rattle.std.specs.Prelude.{◌≡◌, ◌+◌, ◌<◌, ◌≤◌, ◌++◌, ℕ, List, [], Some, IsSome, if◌then◌else◌, length};
-ghost use Rattle.bertlv.specs.Spelling.{AreElements, Element};
-ghost use Rattle.card_types.specs.Aid.{same_aid};
-ghost use Rattle.card_types.specs.CardLife.{card_life_code};
-ghost use Rattle.card_types.specs.Found.{aid_of};
-ghost use Rattle.card_types.specs.LifeMark.{life_mark_code};
-ghost use Rattle.card_types.specs.Registry.{Registry};
-ghost use Rattle.card_types.specs.Represents.{domain_aid, entry_of, file_aid, file_of};
+ghost use Rattle.card_core.specs.Prelude.{AFile, AnEntry, AreElements, Element, IsTemplate, IsThingAt, Registry, Thing, aid_of, card_life_code, domain_aid, entry_of, file_aid, file_of, life_mark_code, module_parts, same_aid, status_parts};
 ghost use Rattle.card_types.specs.declared.factory.TheConstants.{ISSUER};
-ghost use Rattle.policy_machine.specs.GetStatus.{AFile, AnEntry, IsTemplate, Thing, module_parts, status_parts};
-ghost use Rattle.policy_rules.specs.GetStatusRequests.{IsThingAt};
 
 use arrayvec::ArrayVec;
 use bertlv::{Tlv, append};

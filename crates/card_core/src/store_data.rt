@@ -1,13 +1,9 @@
 //! STORE DATA: data objects of a domain are put (GlobalPlatform Card Specification 2.3.1, 11.11).
 
 ghost use Rattle.std.specs.Prelude.{◌≡◌, ◌<◌, ◌≤◌, length, true, false, Some};
-ghost use Rattle.card_core.specs.ObjectsPut.{IsSlotFor, PutsObject, object_with};
-ghost use Rattle.card_types.specs.Represents.{used};
+ghost use Rattle.card_core.specs.Prelude.{HasRoomFor, IsSlotFor, PutsObject, has_object_in, is_tagged_in, object_pages, object_with, used};
 ghost use Rattle.card_types.specs.declared.limits.TheConstants.{OBJECTS};
-ghost use Rattle.policy_slots.specs.ObjectsHeld.{has_object_in, is_tagged_in};
 ghost use Rattle.policy_rules.specs.declared.request.Request.TheVariants.{Store};
-ghost use Rattle.rec_store.specs.Room.{HasRoomFor};
-ghost use Rattle.registry.specs.Pages.{object_pages};
 
 use crate::channel_session::ChannelSession;
 use crate::managed_request::ManagedRequest;

@@ -7,3 +7,4 @@ pub mod InstallLoadRequests
 pub mod LoadFound
 pub mod LoadRequests
 pub mod MakeSelectableRequests
+pub mod Prelude

@@ -1,19 +1,9 @@
 //! DELETE of an application, a security domain or an Executable Load File (GlobalPlatform Card Specification 2.3.1, 9.5 and 11.2).
 
 ghost use Rattle.std.specs.Prelude.{◌≡◌, ◌↔◌, ◌⊎◌, ◌==◌, ℕ, List, Some, IfErr, IfNone, IfOk, IfSome, IsTrue, length, refl, true};
-ghost use Rattle.card_types.specs.Found.{aid_of};
-ghost use Rattle.card_types.specs.Represents.{IsInOrder};
-ghost use Rattle.policy_machine.proofs.DeleteObjectLaws.{deletion_judgeable};
-ghost use Rattle.policy_machine.specs.Admission.{Admitted};
-ghost use Rattle.policy_machine.specs.DeleteKey.{DeleteParameters};
-ghost use Rattle.policy_machine.specs.DeleteObject.{AsksToDelete, DeletingFails, DeletionAsked, IsTokenField, managed_delete_object};
-ghost use Rattle.policy_machine.specs.Malformed.{IsRefusedBy};
+ghost use Rattle.content_rules.specs.Prelude.{ActsIn, Admitted, AsksToDelete, DeleteParameters, DeletingFails, DeletionAsked, FindsThing, ForActing, ForActingLive, HasNoneFrom, IsAlone, IsDeletionOf, IsDeletionRequest, IsInOrder, IsPartOutOfCharge, IsRefusedBy, IsTokenField, IsUnselected, RepresentsState, aid_of, command_form, deletion_judgeable, managed_delete_object};
 ghost use Rattle.policy_machine.specs.declared.channels.TheConstants.{CHANNELS};
 ghost use Rattle.policy_machine.specs.declared.delete_object.RuleDO.TheVariants.{DO3, DO4};
-ghost use Rattle.policy_machine.specs.ManagedForm.{command_form};
-ghost use Rattle.content_rules.specs.DeleteObjectFound.{FindsThing, HasNoneFrom, IsAlone, IsPartOutOfCharge, IsUnselected};
-ghost use Rattle.content_rules.specs.DeleteObjectRequests.{IsDeletionOf, IsDeletionRequest};
-ghost use Rattle.policy_slots.specs.StateShown.{ActsIn, ForActing, ForActingLive, RepresentsState};
 
 use crate::extradition::is_fixed;
 use crate::in_use::{has_stranger, has_user, is_in_use, is_source};

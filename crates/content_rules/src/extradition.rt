@@ -1,21 +1,10 @@
 //! INSTALL [for extradition] (GlobalPlatform Card Specification 2.3.1, 9.4.1 and 11.5).
 
 ghost use Rattle.std.specs.Prelude.{◌≡◌, ◌↔◌, ◌⊎◌, ℕ, List, Some, IfErr, IfNone, IfOk, IfSome, IsTrue, refl, true};
-ghost use Rattle.card_types.specs.Found.{aid_of};
-ghost use Rattle.card_types.specs.Represents.{IsInOrder, Represents};
-ghost use Rattle.card_types.specs.Privileges.{authorized_management, delegated_management};
+ghost use Rattle.content_rules.specs.Prelude.{ActsIn, Admitted, AsksToExtradite, ExtraditingFails, ExtraditionParameters, FindsMove, Holds, InstallData, IsExtraditionOf, IsExtraditionRequest, IsInOrder, IsOutOfReach, IsRefusedBy, IsUnapprovable, Represents, aid_of, authorized_management, command_form, delegated_management, extradition_judgeable, is_personalized, managed_extradition};
 ghost use Rattle.card_types.specs.declared.factory.TheConstants.{FACTORY_FILE, ISSUER};
 ghost use Rattle.card_types.specs.declared.found.Found.TheVariants.{Entry};
-ghost use Rattle.policy_machine.proofs.ExtraditionLaws.{extradition_judgeable};
-ghost use Rattle.policy_machine.specs.Admission.{Admitted};
-ghost use Rattle.policy_machine.specs.Delegation.{Holds};
-ghost use Rattle.policy_machine.specs.Extradition.{AsksToExtradite, ExtraditingFails, ExtraditionParameters, IsOutOfReach, IsUnapprovable, managed_extradition, is_personalized};
-ghost use Rattle.policy_machine.specs.InstallFields.{InstallData};
-ghost use Rattle.policy_machine.specs.Malformed.{IsRefusedBy};
-ghost use Rattle.policy_machine.specs.ManagedForm.{command_form};
 ghost use Rattle.policy_machine.specs.declared.extradition.RuleEX.TheVariants.{EX5, EX7};
-ghost use Rattle.content_rules.specs.ExtraditionRequests.{FindsMove, IsExtraditionOf, IsExtraditionRequest};
-ghost use Rattle.policy_slots.specs.StateShown.{ActsIn};
 
 use crate::install_application::is_factory_file;
 use crate::install_fields::read_fields;

@@ -2,9 +2,8 @@
 
 ghost use Rattle.std.specs.Prelude.{◌≡◌, ◌↔◌, ℕ, IsSome, IsTrue, length};
 ghost use Rattle.std.specs.List.{list_any};
-ghost use Rattle.card_types.specs.Represents.{IsInOrder, domain_slot, held};
-ghost use Rattle.domain_tree.specs.Above.{Above};
-ghost use Rattle.content_rules.specs.DeleteObjectFound.{HasOthersIn, IsFrom, IsInUseIn, IsLoadDomain, comes_from_slot as comes_from_slot_by, has_slot as has_slot_by, is_file_of as is_file_of_by, is_other_of as is_other_of_by};
+ghost use Rattle.content_rules.specs.Prelude.{Above, HasOthersIn, IsFrom, IsInOrder, IsInUseIn, IsLoadDomain, domain_slot, held};
+ghost use Rattle.content_rules.specs.DeleteObjectFound.{comes_from_slot as comes_from_slot_by, has_slot as has_slot_by, is_file_of as is_file_of_by, is_other_of as is_other_of_by};
 
 use card_types::{Aid, ENTRIES, Entry, LoadFile, Tables, in_slot};
 use domain_tree::above;

@@ -2,23 +2,11 @@
 
 ghost use Rattle.std.specs.Prelude.{◌≡◌, ◌↔◌, ◌≢◌, ◌⊎◌, ◌&&◌, ℕ, List, None, Some, IfErr, IfNone, IfOk, IfSome, IsTrue, refl, true};
 ghost use Rattle.std.specs.List.{list_any};
-ghost use Rattle.bertlv.specs.Spelling.{AreElements, Element};
-ghost use Rattle.card_types.specs.Aid.{same_aid};
-ghost use Rattle.card_types.specs.Found.{aid_of};
-ghost use Rattle.card_types.specs.Represents.{IsInOrder, Represents, held};
-ghost use Rattle.card_types.specs.Privileges.{authorized_management, delegated_management, has};
-ghost use Rattle.card_types.specs.Registry.{Entry, Registry, file_named};
-ghost use Rattle.card_types.specs.Well.{Well, has_domain_privilege as has_domain_privilege_by};
+ghost use Rattle.content_rules.specs.Prelude.{ActsIn, Admitted, AreElements, AreInstallParameters, AsksToInstall, Element, Entry, FindsSource, InstallAsked, InstallParameters, IsInOrder, IsInstallOf, IsInstallRequest, IsLoadNamed, IsOutOfCharge, IsRefusedBy, IsTakenAid, MayBeMade, Registry, Represents, Well, aid_of, authorized_management, command_form, delegated_management, exceeds_by, file_named, has, held, install_judgeable, is_loaded_as, managed_install, same_aid};
+ghost use Rattle.card_types.specs.Well.{has_domain_privilege as has_domain_privilege_by};
 ghost use Rattle.card_types.specs.declared.factory.TheConstants.{FACTORY_FILE, FACTORY_MODULE};
 ghost use Rattle.card_types.specs.declared.found.Found.{Found as Thing};
 ghost use Rattle.card_types.specs.declared.found.Found.TheVariants.{File};
-ghost use Rattle.policy_machine.proofs.InstallApplicationAsking.{install_judgeable};
-ghost use Rattle.policy_machine.specs.Admission.{Admitted};
-ghost use Rattle.policy_machine.specs.InstallApplication.{AreInstallParameters, AsksToInstall, InstallAsked, InstallParameters, IsTakenAid, MayBeMade, managed_install};
-ghost use Rattle.policy_machine.specs.Malformed.{IsRefusedBy};
-ghost use Rattle.policy_machine.specs.ManagedForm.{command_form};
-ghost use Rattle.content_rules.specs.InstallApplicationRequests.{FindsSource, IsInstallOf, IsInstallRequest, IsOutOfCharge, exceeds_by, is_loaded_as};
-ghost use Rattle.policy_slots.specs.StateShown.{ActsIn, IsLoadNamed};
 
 use crate::install_fields::read_fields;
 use bertlv::read;

@@ -2,9 +2,7 @@
 
 ghost use Rattle.std.specs.Prelude.{◌≡◌, ◌≤◌, ◌++◌, ℕ, List, IfNone, IfSome, length};
 ghost use Rattle.std.specs.List.{flat_map};
-ghost use Rattle.tokens_receipts.specs.Receipt.{with_length};
-ghost use Rattle.policy_machine.specs.InstallFields.{BeginsWithField, InstallData, IsInstallData, signed_fields};
-ghost use Rattle.content_rules.specs.FieldsRead.{given_of};
+ghost use Rattle.content_rules.specs.Prelude.{BeginsWithField, InstallData, IsInstallData, given_of, signed_fields, with_length};
 
 /// The six fields of an INSTALL, and the bytes before the token and its length, which the token signs.
 #[derive(Clone, Copy, Debug)]

@@ -2,20 +2,9 @@
 
 ghost use Rattle.std.specs.Prelude.{◌≡◌, ◌↔◌, ◌≤◌, ◌⊎◌, ℕ, List, [], Some, false, IfErr, IfNone, IfOk, IfSome, IsTrue, length, refl};
 ghost use Rattle.std.specs.List.{flat_map};
-ghost use Rattle.card_types.specs.Aid.{IsAid};
-ghost use Rattle.card_types.specs.Found.{aid_of};
-ghost use Rattle.card_types.specs.Represents.{IsInOrder};
+ghost use Rattle.content_rules.specs.Prelude.{ActsIn, Admitted, AsksToLoad, FindsDomain, InstallLoadParameters, InstallingLoadFails, IsAid, IsHashLength, IsInOrder, IsLoadData, IsLoadInstallOf, IsLoadInstallRequest, IsLoadNamed, IsRefusedBy, LoadData, NamesDomain, aid_of, file_domain_for, install_load, judged_install_load, load_data_of, load_install_judgeable, signed_load_fields, with_length};
 ghost use Rattle.card_types.specs.declared.found.Found.TheVariants.{Entry};
-ghost use Rattle.policy_machine.proofs.InstallLoadLaws.{load_install_judgeable};
-ghost use Rattle.policy_machine.specs.Admission.{Admitted};
-ghost use Rattle.policy_machine.specs.InstallLoad.{AsksToLoad, InstallLoadParameters, InstallingLoadFails, IsLoadData, LoadData, file_domain_for, install_load, signed_load_fields, judged_install_load};
-ghost use Rattle.policy_machine.specs.Malformed.{IsRefusedBy};
-ghost use Rattle.policy_machine.specs.Sound.{IsHashLength};
 ghost use Rattle.policy_machine.specs.declared.install_load.RuleIL.TheVariants.{IL4, IL6};
-ghost use Rattle.content_rules.specs.InstallLoadRequests.{IsLoadInstallOf, IsLoadInstallRequest, NamesDomain, load_data_of};
-ghost use Rattle.content_rules.specs.LoadFound.{FindsDomain};
-ghost use Rattle.policy_slots.specs.StateShown.{ActsIn, IsLoadNamed};
-ghost use Rattle.tokens_receipts.specs.Receipt.{with_length};
 
 use crate::install_fields::{front, read_field};
 use card_types::{Aid, Privileges, Tables, find, first_free};

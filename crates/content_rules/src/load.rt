@@ -1,21 +1,9 @@
 //! LOAD (GlobalPlatform Card Specification 2.3.1, 9.3.5 and 11.6). Whether its block is taken is judged where the bytes are kept.
 
 ghost use Rattle.std.specs.Prelude.{◌≡◌, ◌≢◌, ◌↔◌, ◌<◌, ℕ, List, [], None, Some, IfErr, IfOk, IfSome, IsSome, IsTrue, OnOk, slice_index_or};
-ghost use Rattle.card_types.specs.Represents.{IsInOrder};
-ghost use Rattle.card_types.specs.Privileges.{delegated_management};
+ghost use Rattle.content_rules.specs.Prelude.{ActsIn, Admitted, FindsConfirmer, Holds, IsFirst, IsForLast, IsForLoad, IsInOrder, IsLoadOf, IsLoadOn, IsLoadRequest, IsRefusedBy, IsSound, LoadFails, LoadParameters, LoadSession, LoadingFails, MayReceipt, RepresentsState, delegated_management, front_rules, last_rules, loading, named_on, number_rules};
 ghost use Rattle.card_types.specs.declared.tables.Tables.{Tables as TheTables};
-ghost use Rattle.policy_machine.specs.Admission.{Admitted};
-ghost use Rattle.policy_machine.specs.Delegation.{Holds};
-ghost use Rattle.policy_machine.specs.Refusal.{IsFirst};
-ghost use Rattle.policy_machine.specs.Load.{IsLoadOn, LoadFails, LoadParameters, LoadingFails, front_rules, last_rules, loading};
-ghost use Rattle.policy_machine.specs.Malformed.{IsRefusedBy};
-ghost use Rattle.policy_machine.specs.Sound.{IsSound};
-ghost use Rattle.policy_machine.specs.State.{LoadSession};
 ghost use Rattle.policy_machine.specs.declared.load.RuleLO.TheVariants.{LO7};
-ghost use Rattle.content_rules.specs.LoadFound.{IsForLast, IsForLoad, named_on, number_rules};
-ghost use Rattle.content_rules.specs.LoadRequests.{IsLoadOf, IsLoadRequest};
-ghost use Rattle.policy_slots.specs.StateShown.{ActsIn, RepresentsState};
-ghost use Rattle.policy_slots.specs.HoldersFound.{FindsConfirmer, MayReceipt};
 
 use card_types::{Privileges, Tables};
 use policy_machine::{CHANNELS, Rule, RuleLO, RulePS};

@@ -1,13 +1,7 @@
 //! INSTALL [for make selectable] (GlobalPlatform Card Specification 2.3.1, 9.3.3 and 11.5).
 
 ghost use Rattle.std.specs.Prelude.{◌≡◌, ◌↔◌, ◌≢◌, IfErr, IfNone, IfOk, IfSome, IsTrue, MatchOption, Option, refl, true};
-ghost use Rattle.card_types.specs.Represents.{held};
-ghost use Rattle.policy_machine.proofs.MakeSelectableLaws.{selectable_judgeable};
-ghost use Rattle.policy_machine.specs.InstallFields.{InstallData};
-ghost use Rattle.policy_machine.specs.Malformed.{IsRefusedBy};
-ghost use Rattle.policy_machine.specs.MakeSelectable.{AsksToMakeSelectable, MakeSelectableParameters, is_installed, managed_selectable};
-ghost use Rattle.policy_machine.specs.ManagedForm.{command_form};
-ghost use Rattle.content_rules.specs.MakeSelectableRequests.{AreGiven, IsInstalledWith, IsSelectableOf, IsSelectableRequest};
+ghost use Rattle.content_rules.specs.Prelude.{AreGiven, AsksToMakeSelectable, InstallData, IsInstalledWith, IsRefusedBy, IsSelectableOf, IsSelectableRequest, MakeSelectableParameters, command_form, held, is_installed, managed_selectable, selectable_judgeable};
 
 use crate::install_fields::read_fields;
 use card_types::{Aid, Life, LifeMark, Privileges, Tables, in_slot};

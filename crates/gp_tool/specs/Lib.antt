@@ -33,3 +33,4 @@ pub mod Verbs
 pub mod Words
 pub mod Desk
 pub mod Cap
+pub mod Prelude

@@ -1,10 +1,7 @@
 //! A line of the verbs `run` and `why`.
 
 ghost use Rattle.std.specs.Prelude.{◌≡◌, ◌≢◌, ◌≤◌, Bool, true, length};
-ghost use Rattle.gp_tool.specs.Form.{FailsCommand, IsForCard};
-ghost use Rattle.gp_tool.specs.Replies.{Replies};
-ghost use Rattle.gp_tool.specs.Serve.{IsHeld, ServesLine, ServeCause};
-ghost use Rattle.gp_tool.specs.Standing.{standing};
+ghost use Rattle.gp_tool.specs.Prelude.{FailsCommand, IsForCard, IsHeld, Replies, ServeCause, ServesLine, standing};
 ghost use Rattle.gp_tool.specs.declared.line.LineEnd.TheVariants.{FlashFault};
 
 use crate::card_end::CardEnd;

@@ -2,15 +2,7 @@
 
 ghost use Rattle.std.specs.Prelude.{◌≡◌, ◌≢◌, ◌⊎◌, ◌++◌, ◌∷◌, [], ℕ, List, take, OnOk, OnErr};
 ghost use Rattle.std.specs.List.{flat_map};
-ghost use Rattle.cap_pack.specs.Held.{IsCap, pack_of};
-ghost use Rattle.cap_pack.specs.Input.{joining, limited};
-ghost use Rattle.cap_pack.specs.Said.{stop_text};
-ghost use Rattle.faults.specs.Faults.{HasCause};
-ghost use Rattle.line_runs.specs.Ends.{IsGoodInput};
-ghost use Rattle.line_runs.specs.Outside.{IfFaultless, outside};
-ghost use Rattle.gp_tool.specs.Around.{around};
-ghost use Rattle.gp_tool.specs.Cap.{CapCourse, CapEnds, CapEndsAt, WritesJoined, pack_line};
-ghost use Rattle.gp_tool.specs.Ends.{EndCause};
+ghost use Rattle.gp_tool.specs.Prelude.{CapCourse, CapEnds, CapEndsAt, EndCause, HasCause, IfFaultless, IsCap, IsGoodInput, WritesJoined, around, joining, limited, outside, pack_line, pack_of, stop_text};
 ghost use Rattle.line_runs.specs.declared.exit.Ending.TheVariants.{BadLine, InputTooLong};
 
 use crate::run::flush_at_end;

@@ -1,7 +1,6 @@
 //! A card at the end of a link.
 
-ghost use Rattle.card_core.specs.Card.{CardRepresents};
-ghost use Rattle.gp_tool.specs.CardEnd.{Comes};
+ghost use Rattle.gp_tool.specs.Prelude.{CardRepresents, Comes};
 
 use arrayvec::ArrayVec;
 use card_core::{Card, REPLY_LIMIT};

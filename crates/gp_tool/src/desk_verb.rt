@@ -1,10 +1,7 @@
 //! The verb `desk`.
 
 ghost use Rattle.std.specs.Prelude.{◌≡◌, ◌⊎◌};
-ghost use Rattle.line_runs.specs.Ends.{IsGoodInput};
-ghost use Rattle.line_runs.specs.Outside.{IfFaultless, outside};
-ghost use Rattle.receipt_desk.specs.Audit.{desk_taker, new_audit};
-ghost use Rattle.gp_tool.specs.Desk.{DeskEnds};
+ghost use Rattle.gp_tool.specs.Prelude.{DeskEnds, IfFaultless, IsGoodInput, desk_taker, new_audit, outside};
 
 use crate::run::flush_at_end;
 use io_edge::{Sink, Source};

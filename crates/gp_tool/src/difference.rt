@@ -1,8 +1,7 @@
 //! The text of a difference.
 
 ghost use Rattle.std.specs.Prelude.{◌≡◌, ◌≤◌, ◌++◌, ℕ, length, take, OnOk, OnErr};
-ghost use Rattle.faults.specs.Faults.{HasCause};
-ghost use Rattle.gp_tool.specs.Replay.{difference};
+ghost use Rattle.gp_tool.specs.Prelude.{HasCause, difference};
 
 use crate::form::COMMAND_LIMIT;
 use arrayvec::ArrayVec;

@@ -1,8 +1,7 @@
 //! The forms of a line.
 
 ghost use Rattle.std.specs.Prelude.{◌≡◌, ◌≤◌, ◌<◌, ◌*◌, ℕ, List, length, take, codes, IsTrue, ◌↔◌, IfSome, Ok, MatchOption};
-ghost use Rattle.hex.specs.Hex.{decode_of};
-ghost use Rattle.gp_tool.specs.Form.{SpellsInputs, IsForCard, FitsRoom, inputs_of};
+ghost use Rattle.gp_tool.specs.Prelude.{FitsRoom, IsForCard, SpellsInputs, decode_of, inputs_of};
 
 use io_edge::LINE_LIMIT;
 use script_tool::says_nothing;

@@ -1,8 +1,7 @@
 //! The verb `format`.
 
 ghost use Rattle.std.specs.Prelude.{◌≤◌};
-ghost use Rattle.gp_tool.specs.Around.{around};
-ghost use Rattle.gp_tool.specs.Verbs.{EndsFormat};
+ghost use Rattle.gp_tool.specs.Prelude.{EndsFormat, around};
 
 use crate::ended::Ended;
 use crate::run::flush_at_end;

@@ -1,8 +1,7 @@
 //! A line that is given to a card.
 
 ghost use Rattle.std.specs.Prelude.{◌≡◌, ◌≢◌, ◌≤◌, true, length};
-ghost use Rattle.faults.specs.Faults.{Rose};
-ghost use Rattle.gp_tool.specs.Give.{GivesLine};
+ghost use Rattle.gp_tool.specs.Prelude.{GivesLine, Rose};
 ghost use Rattle.gp_tool.specs.declared.give.Given.TheVariants.{FlashFault};
 
 use crate::form::{Form, read_form};

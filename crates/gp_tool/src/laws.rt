@@ -1,8 +1,6 @@
 //! The laws of runs over lines, as functions that do nothing when they run.
 
-ghost use Rattle.gp_tool.specs.HostAndCard.{HostAndCard};
-ghost use Rattle.gp_tool.specs.Laws.{OneEnding, OneLast, OneMill, OneText, OneWritten};
-ghost use Rattle.gp_tool.specs.LinesApart.{LinesKeepTrees};
+ghost use Rattle.gp_tool.specs.Prelude.{HostAndCard, LinesKeepTrees, OneEnding, OneLast, OneMill, OneText, OneWritten};
 
 use flash_core::Flash;
 use io_edge::Sink;

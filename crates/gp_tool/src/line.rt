@@ -1,8 +1,7 @@
 //! What is done with one line.
 
 ghost use Rattle.std.specs.Prelude.{◌≡◌, ◌≢◌, ◌≤◌, true, length};
-ghost use Rattle.gp_tool.specs.Serve.{ServeCause};
-ghost use Rattle.gp_tool.specs.Standing.{ServesVerb, standing_in};
+ghost use Rattle.gp_tool.specs.Prelude.{ServeCause, ServesVerb, standing_in};
 ghost use Rattle.gp_tool.specs.declared.line.LineEnd.TheVariants.{FlashFault};
 
 use crate::answer::answer_line;

@@ -1,17 +1,7 @@
 //! The lines of a workload over a card.
 
 ghost use Rattle.std.specs.Prelude.{◌≡◌, ◌≤◌, ◌<◌, ◌+◌, ◌^◌, IfOk, OnOk, OnErr, true, false};
-ghost use Rattle.card_core.specs.Card.{CardRepresents};
-ghost use Rattle.faults.specs.Faults.{Rose};
-ghost use Rattle.policy_machine.specs.State.{State};
-ghost use Rattle.script_tool.specs.Host.{Host};
-ghost use Rattle.script_tool.specs.Kept.{RepresentsHost};
-ghost use Rattle.gp_tool.specs.Effects.{Place};
-ghost use Rattle.gp_tool.specs.Mill.{PlaysSome};
-ghost use Rattle.gp_tool.specs.Milling.{Milled, MillsLine};
-ghost use Rattle.gp_tool.specs.Script.{BreaksScript, IsScript};
-ghost use Rattle.gp_tool.specs.Serve.{BreaksLine};
-ghost use Rattle.gp_tool.specs.Standing.{standing};
+ghost use Rattle.gp_tool.specs.Prelude.{BreaksLine, BreaksScript, CardRepresents, Host, IsScript, Milled, MillsLine, Place, PlaysSome, RepresentsHost, Rose, State, standing};
 
 use crate::card_end::CardEnd;
 use crate::play::{PrintedLine, fill_line, has_printed};

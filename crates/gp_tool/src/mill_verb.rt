@@ -1,14 +1,7 @@
 //! The verb `mill`.
 
 ghost use Rattle.std.specs.Prelude.{◌≡◌, ◌≢◌, ◌≤◌, ◌⊎◌, true};
-ghost use Rattle.card_core.specs.Card.{CardRepresents};
-ghost use Rattle.faults.specs.Faults.{Rose};
-ghost use Rattle.policy_machine.specs.State.{State};
-ghost use Rattle.gp_tool.specs.Around.{around};
-ghost use Rattle.gp_tool.specs.Ends.{EndCause, Flushes};
-ghost use Rattle.gp_tool.specs.Formatted.{IsFactoryCard};
-ghost use Rattle.gp_tool.specs.Mill.{IsNotMilled, MillEnds};
-ghost use Rattle.gp_tool.specs.Verbs.{EndsMill, MillsCard};
+ghost use Rattle.gp_tool.specs.Prelude.{CardRepresents, EndCause, EndsMill, Flushes, IsFactoryCard, IsNotMilled, MillEnds, MillsCard, Rose, State, around};
 
 use crate::card_end::CardEnd;
 use crate::ended::Ended;

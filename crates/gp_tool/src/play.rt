@@ -1,12 +1,7 @@
 //! A line of the verb `play`.
 
 ghost use Rattle.std.specs.Prelude.{◌≡◌, ◌≢◌, ◌≤◌, ◌||◌, ◌++◌, ◌∷◌, [], ℕ, true, take, OnOk, OnErr};
-ghost use Rattle.faults.specs.Faults.{HasCause};
-ghost use Rattle.script_tool.specs.Kept.{RepresentsHost};
-ghost use Rattle.script_tool.specs.Kinds.{is_difference_kind, prints_kind};
-ghost use Rattle.gp_tool.specs.Script.{BreaksScript, IsScript, PlaysScript};
-ghost use Rattle.gp_tool.specs.Serve.{ServesLine, ServeCause};
-ghost use Rattle.gp_tool.specs.Standing.{standing};
+ghost use Rattle.gp_tool.specs.Prelude.{BreaksScript, HasCause, IsScript, PlaysScript, RepresentsHost, ServeCause, ServesLine, is_difference_kind, prints_kind, standing};
 ghost use Rattle.gp_tool.specs.declared.line.LineEnd.TheVariants.{FlashFault};
 
 use crate::card_end::CardEnd;

@@ -1,11 +1,7 @@
 //! A line of the verb `replay`.
 
 ghost use Rattle.std.specs.Prelude.{◌≡◌, ◌≢◌, ◌≤◌, ◌∷◌, ℕ, Bool, List, true, take, length, IfSome, IsTrue, MatchOption, ◌↔◌};
-ghost use Rattle.gp_tool.specs.Compare.{ComparesLine, KeepsLine, SkipsSpaces, keeping};
-ghost use Rattle.gp_tool.specs.Form.{FailsCommand};
-ghost use Rattle.gp_tool.specs.Replay.{IsForReplay, Replays, Wants};
-ghost use Rattle.gp_tool.specs.Serve.{IsHeld, ServesLine, ServeCause};
-ghost use Rattle.gp_tool.specs.Standing.{kept_in, standing};
+ghost use Rattle.gp_tool.specs.Prelude.{ComparesLine, FailsCommand, IsForReplay, IsHeld, KeepsLine, Replays, ServeCause, ServesLine, SkipsSpaces, Wants, keeping, kept_in, standing};
 ghost use Rattle.gp_tool.specs.declared.form.TheConstants.{COMMAND_LIMIT};
 ghost use Rattle.gp_tool.specs.declared.line.LineEnd.TheVariants.{FlashFault};
 

@@ -1,9 +1,7 @@
 //! The lines that are written.
 
 ghost use Rattle.std.specs.Prelude.{◌≡◌, ◌≤◌, ◌<◌, ◌*◌, ◌+◌, ◌++◌, [], ℕ, length, take, OnOk, OnErr};
-ghost use Rattle.faults.specs.Faults.{HasCause};
-ghost use Rattle.hex.specs.Hex.{encode_lower};
-ghost use Rattle.gp_tool.specs.Replies.{behind_reply, reason};
+ghost use Rattle.gp_tool.specs.Prelude.{HasCause, behind_reply, encode_lower, reason};
 
 use arrayvec::ArrayVec;
 use card_core::REPLY_LIMIT;

@@ -1,10 +1,7 @@
 //! The rights of a card as text.
 
 ghost use Rattle.std.specs.Prelude.{◌≡◌, ℕ, List, MatchResult};
-ghost use Rattle.card_types.specs.Represents.{IsInOrder, Represents};
-ghost use Rattle.card_types.specs.Registry.{Registry};
-ghost use Rattle.faults.specs.Faults.{HasCause};
-ghost use Rattle.gp_tool.specs.Shown.{WritesFront, WritesWhole};
+ghost use Rattle.gp_tool.specs.Prelude.{HasCause, IsInOrder, Registry, Represents, WritesFront, WritesWhole};
 ghost use Rattle.gp_tool.specs.declared.view.View.TheVariants.{Rights};
 
 use access_matrix::Walk;

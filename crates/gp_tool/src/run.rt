@@ -1,17 +1,8 @@
 //! A run over the lines of a source.
 
 ghost use Rattle.std.specs.Prelude.{◌≡◌, ◌≢◌, ◌≤◌, ℕ, None, true, IfNone, IfSome};
-ghost use Rattle.card_core.specs.Card.{CardRepresents};
-ghost use Rattle.policy_machine.specs.State.{State};
-ghost use Rattle.gp_tool.specs.Around.{Around, around};
-ghost use Rattle.gp_tool.specs.Ends.{EndCause, Flushes};
-ghost use Rattle.line_runs.specs.Outside.{outside};
-ghost use Rattle.gp_tool.specs.Flush.{AfterFlush};
+ghost use Rattle.gp_tool.specs.Prelude.{AfterFlush, Around, CardRepresents, EndCause, EndsWith, Flushes, GoesOn, Refuses, RunCause, RunEnds, State, around, outside, standing_in};
 ghost use Rattle.line_runs.specs.declared.exit.Ending.TheVariants.{Failed};
-ghost use Rattle.gp_tool.specs.RunCause.{RunCause};
-ghost use Rattle.gp_tool.specs.Standing.{standing_in};
-ghost use Rattle.gp_tool.specs.Turn.{EndsWith, GoesOn, Refuses};
-ghost use Rattle.gp_tool.specs.Verbs.{RunEnds};
 
 use crate::card_end::CardEnd;
 use crate::line::{LineEnd, serve_line};

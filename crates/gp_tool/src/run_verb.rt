@@ -1,9 +1,7 @@
 //! The verbs over lines.
 
 ghost use Rattle.std.specs.Prelude.{◌≡◌, ◌≢◌, ◌⊎◌, ◌≤◌};
-ghost use Rattle.gp_tool.specs.Around.{around};
-ghost use Rattle.gp_tool.specs.Device.{HoldsCard, refusal_status};
-ghost use Rattle.gp_tool.specs.Verbs.{Completes, EndsRun};
+ghost use Rattle.gp_tool.specs.Prelude.{Completes, EndsRun, HoldsCard, around, refusal_status};
 
 use crate::ended::Ended;
 use crate::serving::serve;

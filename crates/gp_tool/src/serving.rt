@@ -1,10 +1,8 @@
 //! The call that serves a card.
 
 ghost use Rattle.std.specs.Prelude.{◌≡◌, ◌≢◌, ◌≤◌, true};
-ghost use Rattle.card_core.specs.Card.{CardRepresents};
-ghost use Rattle.policy_machine.specs.State.{State, powered_on};
-ghost use Rattle.gp_tool.specs.Around.{around};
-ghost use Rattle.gp_tool.specs.Verbs.{IsDone, IsGoodInput, NoFault, Serves};
+ghost use Rattle.gp_tool.specs.Prelude.{CardRepresents, IsDone, NoFault, Serves, State, around, powered_on};
+ghost use Rattle.gp_tool.specs.Verbs.{IsGoodInput};
 
 use crate::card_end::CardEnd;
 use crate::run::run;

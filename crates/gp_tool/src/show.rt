@@ -5,15 +5,8 @@
 
 ghost use Rattle.std.specs.Prelude.{◌≡◌, ◌≤◌, ◌++◌, ℕ, take, true, OnOk, OnErr, IfErr};
 ghost use Rattle.std.specs.List.{flat_map};
-ghost use Rattle.card_core.specs.Card.{CardRepresents};
-ghost use Rattle.card_types.specs.Represents.{IsInOrder};
-ghost use Rattle.faults.specs.Faults.{HasCause};
-ghost use Rattle.page_journal.specs.Moments.{LeavesOnly};
-ghost use Rattle.policy_machine.specs.State.{State};
-ghost use Rattle.rec_store.specs.Reopens.{Reopens};
+ghost use Rattle.gp_tool.specs.Prelude.{CardRepresents, HasCause, IsInOrder, LeavesOnly, Reopens, ShowCause, State, Writes, WritesOf, card_line, counter_line, entry_line, key_line, object_line, shown};
 ghost use Rattle.gp_tool.specs.declared.show.fault.ShowFault.TheVariants.{Write};
-ghost use Rattle.gp_tool.specs.Listing.{Writes, WritesOf};
-ghost use Rattle.gp_tool.specs.Show.{card_line, counter_line, entry_line, key_line, object_line, ShowCause, shown};
 
 mod counters;
 mod entries;

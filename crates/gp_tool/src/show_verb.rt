@@ -1,17 +1,7 @@
 //! The verbs that show a card: `show` and `access`.
 
 ghost use Rattle.std.specs.Prelude.{◌≡◌, ◌≢◌, ◌⊎◌, ◌≤◌, true, IfErr, OnErr, OnOk};
-ghost use Rattle.card_core.specs.Card.{CardRepresents};
-ghost use Rattle.faults.specs.Faults.{Rose};
-ghost use Rattle.page_journal.specs.Moments.{LeavesOnly};
-ghost use Rattle.policy_machine.specs.State.{State};
-ghost use Rattle.rec_store.specs.Reopens.{Reopens};
-ghost use Rattle.gp_tool.specs.Around.{around};
-ghost use Rattle.gp_tool.specs.Device.{HoldsCard};
-ghost use Rattle.gp_tool.specs.Ends.{EndCause, Flushes};
-ghost use Rattle.gp_tool.specs.Show.{ShowCause};
-ghost use Rattle.gp_tool.specs.Shown.{ShowEnds, WritesFront, WritesWhole};
-ghost use Rattle.gp_tool.specs.Verbs.{EndsShow};
+ghost use Rattle.gp_tool.specs.Prelude.{CardRepresents, EndCause, EndsShow, Flushes, HoldsCard, LeavesOnly, Reopens, Rose, ShowCause, ShowEnds, State, WritesFront, WritesWhole, around};
 
 use crate::ended::Ended;
 use crate::rights::write_rights;

@@ -1,14 +1,8 @@
 //! A line that a host plays over a card.
 
 ghost use Rattle.std.specs.Prelude.{◌≡◌, ◌≤◌, ◌⊎◌, ◌↔◌, ℕ, true, Err, OnOk};
-ghost use Rattle.card_core.specs.Card.{CardRepresents};
-ghost use Rattle.faults.specs.Faults.{Rose};
-ghost use Rattle.policy_machine.specs.State.{State};
-ghost use Rattle.script_tool.specs.Host.{Host};
-ghost use Rattle.script_tool.specs.Kept.{RepresentsHost};
-ghost use Rattle.script_tool.specs.Line.{HasNoForm, SaysLine};
+ghost use Rattle.gp_tool.specs.Prelude.{CardRepresents, HasNoForm, Host, RepresentsHost, Rose, SaysLine, State, StepsCard, counting};
 ghost use Rattle.script_lines.specs.declared.line.ScriptLine.{ScriptLine};
-ghost use Rattle.gp_tool.specs.StepsCard.{StepsCard, counting};
 
 use crate::card_end::CardEnd;
 use flash_core::Flash;

@@ -1,14 +1,7 @@
 //! The summary of a workload.
 
 ghost use Rattle.std.specs.Prelude.{◌≡◌, ◌≤◌, ◌+◌, ◌++◌, [], ℕ, List, length, take, OnOk, OnErr};
-ghost use Rattle.arrayvec.specs.ArrayVec.{array_vec_len};
-ghost use Rattle.card_check.specs.IsCard.{HasPages};
-ghost use Rattle.card_core.specs.Kept.{AreCards};
-ghost use Rattle.card_types.specs.Represents.{IsInOrder, Represents};
-ghost use Rattle.card_types.specs.Registry.{Registry};
-ghost use Rattle.card_types.specs.Well.{Well};
-ghost use Rattle.faults.specs.Faults.{HasCause};
-ghost use Rattle.gp_tool.specs.Mill.{IsCounterText, count_line, summary, workload_line};
+ghost use Rattle.gp_tool.specs.Prelude.{AreCards, HasCause, HasPages, IsCounterText, IsInOrder, Registry, Represents, Well, array_vec_len, count_line, summary, workload_line};
 
 use crate::tally::Tally;
 use crate::workload::Workload;

@@ -1,12 +1,7 @@
 //! The top call.
 
 ghost use Rattle.std.specs.Prelude.{◌≡◌, ◌⊎◌, ◌≤◌, ◌++◌, ℕ, take, OnOk, OnErr};
-ghost use Rattle.faults.specs.Faults.{HasCause};
-ghost use Rattle.gp_tool.specs.Around.{around};
-ghost use Rattle.gp_tool.specs.Device.{HoldsCard};
-ghost use Rattle.gp_tool.specs.Flush.{FlushesLast, IsHandedOn};
-ghost use Rattle.gp_tool.specs.Tasks.{LacksMemory, NeedsCard, TaskCompletes, TaskEnds};
-ghost use Rattle.gp_tool.specs.Words.{AreOf, EndsInUsage, HaveForm, usage_line};
+ghost use Rattle.gp_tool.specs.Prelude.{AreOf, EndsInUsage, FlushesLast, HasCause, HaveForm, HoldsCard, IsHandedOn, LacksMemory, NeedsCard, TaskCompletes, TaskEnds, around, usage_line};
 ghost use Rattle.gp_tool.specs.declared.task.Task.{Task};
 ghost use Rattle.gp_tool.specs.declared.task.Task.TheVariants.{Mill};
 ghost use Rattle.gp_tool.specs.declared.workload.Workload.{Workload};

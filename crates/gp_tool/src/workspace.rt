@@ -1,8 +1,7 @@
 //! The room for one line.
 
 ghost use Rattle.std.specs.Prelude.{◌≡◌, false};
-ghost use Rattle.script_tool.specs.Host.{first_host};
-ghost use Rattle.script_tool.specs.Kept.{RepresentsHost};
+ghost use Rattle.gp_tool.specs.Prelude.{RepresentsHost, first_host};
 
 use crate::form::COMMAND_LIMIT;
 use crate::play::PrintedLine;

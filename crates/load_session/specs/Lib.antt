@@ -5,3 +5,4 @@ pub mod Loaded
 pub mod Paged
 pub mod Pages
 pub mod Session
+pub mod Prelude

@@ -1,8 +1,7 @@
 //! The first block, which announces how many bytes come (GlobalPlatform Card Specification 2.3.1, 11.6.2.3).
 
 ghost use Rattle.std.specs.Prelude.{◌≤◌, ℕ, List, IfNone, IfSome, drop, length};
-ghost use Rattle.bertlv.specs.Refusal.{AfterLength};
-ghost use Rattle.policy_machine.specs.LoadBlocks.{Announces};
+ghost use Rattle.load_session.specs.Prelude.{AfterLength, Announces};
 
 /// Why a block is not taken.
 #[derive(Clone, Copy, Debug, PartialEq, Eq)]

@@ -1,16 +1,9 @@
 //! The lowest load page that is free.
 
 ghost use Rattle.std.specs.Prelude.{◌≡◌, ◌+◌, ◌<◌, ◌≤◌, ◌++◌, ◌∷◌, ℕ, List, [], All, Contains, length};
-ghost use Rattle.card_check.specs.IsCard.{pages_named};
-ghost use Rattle.card_check.specs.LoadPages.{HasMarks, HasPageNumbers, all_pages};
-ghost use Rattle.card_types.specs.Represents.{used};
-ghost use Rattle.card_types.specs.Well.{pages_of};
+ghost use Rattle.load_session.specs.Prelude.{AreRoomy, HasMarks, HasPageNumbers, IsFree, IsLoadPage, IsPageInUse, all_pages, pages_in, pages_named, pages_of, used};
 ghost use Rattle.card_types.specs.declared.limits.TheConstants.{FILE_LIMIT, LOAD_PAGES};
-ghost use Rattle.load_session.specs.Pages.{IsPageInUse, pages_in};
-ghost use Rattle.page_journal.specs.Pages.{IsLoadPage};
 ghost use Rattle.page_journal.specs.declared.pages.TheConstants.{FIRST_LOAD_PAGE};
-ghost use Rattle.rec_store.specs.Reopens.{IsFree};
-ghost use Rattle.rec_store.specs.StoredTables.{AreRoomy};
 
 use card_types::{LOAD_PAGES, LoadFile, Tables};
 use page_journal::FIRST_LOAD_PAGE;

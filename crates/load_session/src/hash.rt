@@ -1,11 +1,7 @@
 //! The hash of an Executable Load File, taken as its bytes come.
 
 ghost use Rattle.std.specs.Prelude.{◌≡◌, ◌↔◌, ◌⊎◌, ◌++◌, ℕ, [], List, IsTrue, length};
-ghost use Rattle.load_session.specs.Hash.{IsFed};
-ghost use Rattle.policy_machine.specs.LoadBlocks.{HaveHash};
-ghost use Rattle.sha1.specs.Sha1.{Holds, sha1};
-ghost use Rattle.sha2.specs.Hashers.{Holds256};
-ghost use Rattle.sha2.specs.Sha256.{sha256};
+ghost use Rattle.load_session.specs.Prelude.{HaveHash, Holds, Holds256, IsFed, sha1, sha256};
 
 use sha1::Sha1;
 use sha2::{Digest, Sha256};

@@ -1,15 +1,7 @@
 //! Whether a block is taken (GlobalPlatform Card Specification 2.3.1, 11.6.2).
 
 ghost use Rattle.std.specs.Prelude.{◌≡◌, ◌≢◌, ◌↔◌, ◌⊎◌, ◌+◌, ◌<◌, ◌≤◌, ℕ, List, Bool, All, false, true, Err, IfErr, IfNone, IfOk, IfSome, drop, length};
-ghost use Rattle.card_check.specs.LoadPages.{HasPageNumbers};
-ghost use Rattle.card_types.specs.Represents.{used};
-ghost use Rattle.card_types.specs.Well.{pages_of};
-ghost use Rattle.load_session.specs.Judging.{BlockPasses, ForEachSaid, StopsBlock};
-ghost use Rattle.load_session.specs.Paged.{size_of};
-ghost use Rattle.load_session.specs.Pages.{pages_in};
-ghost use Rattle.load_session.specs.Session.{IsBlockTaken};
-ghost use Rattle.policy_machine.specs.LoadBlocks.{BringsBytes};
-ghost use Rattle.rec_store.specs.StoredTables.{AreRoomy};
+ghost use Rattle.load_session.specs.Prelude.{AreRoomy, BlockPasses, BringsBytes, ForEachSaid, HasPageNumbers, IsBlockTaken, StopsBlock, pages_in, pages_of, size_of, used};
 
 use crate::block::{BlockStop, Taken, first_block};
 use crate::free_page::count_pages;

@@ -1,12 +1,7 @@
 //! Load pages that are to be written.
 
 ghost use Rattle.std.specs.Prelude.{◌≡◌, [], true, All, IsOk, OnOk};
-ghost use Rattle.page_journal.specs.Pages.{IsLoadPage};
-ghost use Rattle.card_types.specs.Registry.{Registry};
-ghost use Rattle.faults.specs.Faults.{HasCause};
-ghost use Rattle.load_session.specs.Loaded.{loaded, numbers};
-ghost use Rattle.page_journal.specs.Moments.{LeavesOnly};
-ghost use Rattle.rec_store.specs.Reopens.{IsSpare, Keeps, Reopens, load_page};
+ghost use Rattle.load_session.specs.Prelude.{HasCause, IsLoadPage, IsSpare, Keeps, LeavesOnly, Registry, Reopens, load_page, loaded, numbers};
 
 use flash_core::{Flash, FlashFailed, Page};
 use rec_store::Records;

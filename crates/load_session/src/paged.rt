@@ -2,13 +2,8 @@
 
 ghost use Rattle.std.specs.Prelude.{◌≡◌, ◌+◌, ◌<◌, ◌≤◌, ◌++◌, ℕ, [], List, length, map, take};
 ghost use Rattle.std.specs.List.{concat};
-ghost use Rattle.card_check.specs.IsCard.{HasPages};
-ghost use Rattle.card_types.specs.Well.{pages_of};
+ghost use Rattle.load_session.specs.Prelude.{AreOwn, AreRoomy, AreTaken, HasLoadRoom, HasPages, IsOpen, bytes_in, loaded, padded, pages_in, pages_of, size_of};
 ghost use Rattle.card_types.specs.declared.limits.TheConstants.{LOAD_PAGES};
-ghost use Rattle.load_session.specs.Loaded.{AreTaken, loaded};
-ghost use Rattle.load_session.specs.Pages.{AreOwn, pages_in};
-ghost use Rattle.load_session.specs.Paged.{HasLoadRoom, IsOpen, bytes_in, padded, size_of};
-ghost use Rattle.rec_store.specs.StoredTables.{AreRoomy};
 
 use crate::free_page::free_page;
 use crate::load_write::{LoadWrite, WRITES};

@@ -1,9 +1,8 @@
 //! A load session.
 
 ghost use Rattle.std.specs.Prelude.{◌≡◌, ◌⊎◌, ℕ, [], List, None, length};
-ghost use Rattle.card_types.specs.Represents.{domain_aid};
+ghost use Rattle.load_session.specs.Prelude.{RepresentsLoad, blocks_taken, domain_aid, load_aid, load_slot};
 ghost use Rattle.card_types.specs.declared.tables.Tables.{Tables};
-ghost use Rattle.load_session.specs.Session.{RepresentsLoad, load_aid, blocks_taken, load_slot};
 
 use crate::hash::RunningHash;
 use crate::paged::PagedBytes;

@@ -1,15 +1,9 @@
 //! A block is taken, and the file is whole with the last one (GlobalPlatform Card Specification 2.3.1, 11.6).
 
 ghost use Rattle.std.specs.Prelude.{◌≡◌, ◌+◌, ◌<◌, ◌≤◌, ◌++◌, [], ℕ, List, drop, length};
-ghost use Rattle.card_check.specs.IsCard.{HasPages, IsInLoadPages, pages_named};
-ghost use Rattle.card_types.specs.Represents.{file_of};
-ghost use Rattle.card_types.specs.declared.tables.Tables.{Tables as TablesOf};
-ghost use Rattle.load_session.specs.Loaded.{AreNewPages, loaded, numbers};
-ghost use Rattle.load_session.specs.Pages.{AreOwn};
-ghost use Rattle.load_session.specs.Session.{IsAfterBlock, IsReady, IsBlockTaken, IsWholeFile, RepresentsAfter, RepresentsLoad, RepresentsWhole, load_aid, blocks_taken, len_of, pages_taken, load_slot};
-ghost use Rattle.policy_machine.specs.LoadBlocks.{with_block};
+ghost use Rattle.load_session.specs.Prelude.{AreNewPages, AreOwn, AreRoomy, HasPages, IsAfterBlock, IsBlockTaken, IsInLoadPages, IsReady, IsWholeFile, RepresentsAfter, RepresentsLoad, RepresentsWhole, blocks_taken, file_of, len_of, load_aid, load_slot, loaded, numbers, pages_named, pages_taken, with_block};
 ghost use Rattle.policy_machine.specs.State.{LoadSession as Load};
-ghost use Rattle.rec_store.specs.StoredTables.{AreRoomy};
+ghost use Rattle.card_types.specs.declared.tables.Tables.{Tables as TablesOf};
 
 use crate::block::Taken;
 use crate::load_write::{LoadWrite, WRITES};

@@ -44,3 +44,4 @@ pub mod State
 pub mod Step
 pub mod StoreData
 pub mod Trees
+pub mod Prelude

@@ -1,11 +1,7 @@
 //! The laws of the policy machine, as functions that do nothing when they run.
 
 ghost use Rattle.std.specs.Prelude.{ℕ, List};
-ghost use Rattle.card_types.specs.Registry.{Registry};
-ghost use Rattle.policy_machine.specs.Laws.{ChangesAreOpened, NumbersRise, NumbersRiseInRuns, OneForm, OneOutcome, OneRun, OthersAreChanges, PlacesAreForgotten, RefusalsDropOffers, StartsSound, StepsKeepSound};
-ghost use Rattle.policy_machine.specs.OwnRules.{AlikeAreJudgedAlike, OpenedAreJudged};
-ghost use Rattle.policy_machine.specs.RunsApart.{RootsGetNothing, TreesStay, TreesStayInRuns};
-ghost use Rattle.policy_machine.specs.Trees.{IsWholeTree};
+ghost use Rattle.policy_machine.specs.Prelude.{AlikeAreJudgedAlike, ChangesAreOpened, IsWholeTree, NumbersRise, NumbersRiseInRuns, OneForm, OneOutcome, OneRun, OpenedAreJudged, OthersAreChanges, PlacesAreForgotten, RefusalsDropOffers, Registry, RootsGetNothing, StartsSound, StepsKeepSound, TreesStay, TreesStayInRuns};
 
 /// A card that is powered on is sound, and each step keeps it so.
 pub fn steps_keep_sound()

@@ -2,21 +2,11 @@
 
 ghost use Rattle.std.specs.Prelude.{◌≡◌, ℕ, List, [], ◌∷◌, ◌++◌, None, Some, map, replicate};
 ghost use Rattle.std.specs.List.{range_with_len};
-ghost use Rattle.policy_machine.specs.Admission.{general_rules};
-ghost use Rattle.policy_machine.specs.Classes.{class_of, instructions_of, managing};
-ghost use Rattle.policy_machine.specs.Commands.{forms_of};
-ghost use Rattle.policy_machine.specs.ExternalAuthenticate.{rules_before_form};
-ghost use Rattle.policy_machine.specs.Extradition.{managed_extradition};
-ghost use Rattle.policy_machine.specs.InstallApplication.{managed_install};
-ghost use Rattle.policy_machine.specs.InstallLoad.{install_load};
-ghost use Rattle.policy_machine.specs.MakeSelectable.{managed_selectable};
-ghost use Rattle.policy_machine.specs.PutKey.{key_field, sealed_size};
-ghost use Rattle.policy_machine.specs.Rules.{status_of, statuses_of};
+ghost use Rattle.policy_machine.specs.Prelude.{class_of, command_form, forms_of, general_rules, install_load, instructions_of, key_field, managed_extradition, managed_install, managed_selectable, managing, rules_before_form, sealed_size, status_of, statuses_of};
 ghost use Rattle.policy_machine.specs.declared.class.Class.TheVariants.{Interindustry, Plain, Secure};
 ghost use Rattle.policy_machine.specs.declared.channels.TheConstants.{CHANNELS};
 ghost use Rattle.policy_machine.specs.declared.rule.Rule.TheVariants.{G, PS};
 ghost use Rattle.policy_machine.specs.declared.rule.RulePS.TheVariants.{P, S};
-ghost use Rattle.policy_machine.specs.ManagedForm.{command_form};
 
 /// How many channels there are.
 pub fn constants()

@@ -1,7 +1,7 @@
 //! The rules that refuse a command.
 
 ghost use Rattle.std.specs.Prelude.{◌≡◌, ◌≤◌, length};
-ghost use Rattle.policy_machine.specs.Rules.{name_of, refusal_by, status_of};
+ghost use Rattle.policy_machine.specs.Prelude.{name_of, refusal_by, status_of};
 ghost use Rattle.policy_machine.specs.Step.{keeps_load as keeps_load_by};
 
 use crate::card_status::RuleSC;

@@ -1,14 +1,7 @@
 //! SET STATUS of the card (GlobalPlatform Card Specification 2.3.1, 5.1 and 11.10).
 
 ghost use Rattle.std.specs.Prelude.{◌≡◌, ◌↔◌, ℕ, List, None, Some, IfErr, IfNone, IfOk, IfSome, IsTrue, OnOk};
-ghost use Rattle.card_types.specs.CardLife.{card_life_code};
-ghost use Rattle.policy_machine.specs.Admission.{Admitted};
-ghost use Rattle.policy_machine.specs.CardStatus.{CardStatusParameters, IsCardStep, managed_card_status};
-ghost use Rattle.policy_machine.specs.Malformed.{IsRefusedBy};
-ghost use Rattle.policy_machine.specs.CommandForm.{FailsFirst};
-ghost use Rattle.policy_machine.specs.ManagedForm.{command_form};
-ghost use Rattle.policy_rules.specs.SetStatusRequests.{IsCardStatusOf, IsStepBy, MayStep};
-ghost use Rattle.policy_slots.specs.StateShown.{ActsIn};
+ghost use Rattle.policy_rules.specs.Prelude.{ActsIn, Admitted, CardStatusParameters, FailsFirst, IsCardStatusOf, IsCardStep, IsRefusedBy, IsStepBy, MayStep, card_life_code, command_form, managed_card_status};
 
 use card_types::{CardLife, Privileges, Tables};
 use policy_machine::{Rule, RulePS, RuleSC};

@@ -2,16 +2,9 @@
 
 ghost use Rattle.std.specs.Prelude.{◌≡◌, ◌↔◌, ℕ, List, None, Some, IfErr, IfNone, IfOk, IfSome, IsTrue, OnOk};
 ghost use Rattle.std.specs.List.{list_any};
-ghost use Rattle.card_types.specs.Represents.{IsInOrder, domain_slot};
-ghost use Rattle.policy_machine.specs.Admission.{Admitted};
-ghost use Rattle.policy_machine.specs.DeleteKey.{Chooses, DeleteParameters, IsLastSet, NamesPart, managed_delete_key, AsksToDeleteKey, KeyChosen};
-ghost use Rattle.policy_machine.specs.Commands.{Judges};
-ghost use Rattle.policy_machine.specs.Malformed.{IsRefusedBy};
-ghost use Rattle.policy_machine.specs.ManagedForm.{command_form};
-ghost use Rattle.policy_rules.specs.Requests.{IsRequestOf};
-ghost use Rattle.policy_rules.specs.declared.request.Request.TheVariants.{DeleteKey};
-ghost use Rattle.policy_slots.specs.StateShown.{ActsIn};
+ghost use Rattle.policy_rules.specs.Prelude.{ActsIn, Admitted, AsksToDeleteKey, Chooses, DeleteParameters, IsInOrder, IsLastSet, IsRefusedBy, IsRequestOf, Judges, KeyChosen, NamesPart, command_form, domain_slot, managed_delete_key};
 ghost use Rattle.policy_slots.specs.KeyOrder.{holds_counter_but as holds_counter_but_by};
+ghost use Rattle.policy_rules.specs.declared.request.Request.TheVariants.{DeleteKey};
 
 use card_types::{Entry, KeyRec, Tables, in_slot};
 use key_rules::has_version;

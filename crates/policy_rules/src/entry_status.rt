@@ -1,21 +1,9 @@
 //! SET STATUS of an application or a security domain (GlobalPlatform Card Specification 2.3.1, 5.3 and 11.10).
 
 ghost use Rattle.std.specs.Prelude.{◌≡◌, ◌↔◌, ◌⊎◌, ℕ, List, None, Some, false, IfErr, IfNone, IfOk, IfSome, IsTrue, OnOk};
-ghost use Rattle.card_types.specs.Found.{aid_of};
-ghost use Rattle.card_types.specs.Represents.{IsInOrder};
-ghost use Rattle.card_types.specs.Privileges.{has, security_domain};
+ghost use Rattle.policy_rules.specs.Prelude.{ActsIn, Admitted, EntryStatusParameters, FailsFirst, Holds, IsAboveIn, IsChangeFor, IsEntryStatusOf, IsEntryStatusRequest, IsInOrder, IsOther, IsRefusedBy, IsSlotStep, MaySet, OwnFirst, PersonalizesItself, SettingStatusFails, acting, aid_of, command_form, global_lock, has, managed_entry_status, security_domain, slot_of};
 ghost use Rattle.card_types.specs.declared.found.Found.TheVariants.{Entry as At};
-ghost use Rattle.domain_tree.specs.Above.{IsAboveIn};
-ghost use Rattle.policy_machine.specs.Admission.{Admitted};
-ghost use Rattle.policy_machine.specs.Delegation.{Holds};
-ghost use Rattle.policy_machine.specs.EntryStatus.{EntryStatusParameters, PersonalizesItself, SettingStatusFails, managed_entry_status, global_lock};
-ghost use Rattle.policy_machine.specs.Malformed.{IsRefusedBy};
-ghost use Rattle.policy_machine.specs.Management.{acting};
 ghost use Rattle.policy_machine.specs.declared.entry_status.RuleSS.TheVariants.{SS1};
-ghost use Rattle.policy_machine.specs.CommandForm.{FailsFirst};
-ghost use Rattle.policy_machine.specs.ManagedForm.{OwnFirst, command_form};
-ghost use Rattle.policy_rules.specs.SetStatusRequests.{IsChangeFor, IsEntryStatusOf, IsEntryStatusRequest, IsOther, IsSlotStep, MaySet, slot_of};
-ghost use Rattle.policy_slots.specs.StateShown.{ActsIn};
 
 use bitflags::Flags;
 use card_types::{Aid, Entry, Life, LifeMark, Privileges, Tables, in_slot};

@@ -3,15 +3,9 @@
 ghost use Rattle.std.specs.Prelude.{◌≡◌, ℕ, ◌&&◌, ◌==◌, List, Some, IfSome, IfNone, IfOk, IfErr};
 ghost use Rattle.std.specs.Ordering.{nat_cmp};
 ghost use Rattle.std.proofs.lemmas.Cmp.{nat_cmp_total, on_total};
-ghost use Rattle.bertlv.specs.Tag.{IsTag};
-ghost use Rattle.card_types.specs.Represents.{IsInOrder, Represents, domain_aid, held};
-ghost use Rattle.card_types.specs.Registry.{Registry};
-ghost use Rattle.card_types.specs.Well.{Well};
+ghost use Rattle.policy_rules.specs.Prelude.{HasData, IsFor, IsInOrder, IsTag, Parses, Registry, Represents, Well, domain_aid, held};
 ghost use Rattle.card_types.specs.declared.tables.Entry.{Entry};
-ghost use Rattle.policy_machine.specs.GetData.{HasData};
 ghost use Rattle.policy_machine.specs.declared.instruction.TheConstants.{GET_DATA};
-ghost use Rattle.policy_rules.specs.Found.{IsFor};
-ghost use Rattle.policy_rules.specs.Requests.{Parses};
 
 use crate::request::Request;
 use card_types::{KeyRec, Object, Search, Tables, least};

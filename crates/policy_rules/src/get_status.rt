@@ -1,17 +1,9 @@
 //! GET STATUS (GlobalPlatform Card Specification 2.3.1, 11.4).
 
 ghost use Rattle.std.specs.Prelude.{◌≡◌, ◌↔◌, ℕ, List, None, Some, IfErr, IfNone, IfOk, IfSome, IsSome, IsTrue, OnOk, option_copied};
-ghost use Rattle.card_types.specs.Found.{IsAbove, aid_of};
-ghost use Rattle.card_types.specs.Represents.{IsInOrder};
-ghost use Rattle.policy_machine.specs.Admission.{Admitted};
-ghost use Rattle.policy_machine.specs.Refusal.{IsFirst};
-ghost use Rattle.policy_machine.specs.GetStatus.{BeginsAbove, GetStatusFails, IsInTree, IsSearch, ListingFails, Sees, StatusParameters, Thing, get_status_rules};
-ghost use Rattle.policy_machine.specs.Management.{acting};
+ghost use Rattle.policy_rules.specs.Prelude.{ActsIn, Admitted, BeginsAbove, GetStatusFails, IsAbove, IsFirst, IsFirstShown, IsInOrder, IsInTree, IsListOf, IsListedAs, IsListedAt, IsNextListed, IsPlaceBefore, IsSearch, IsThingAt, ListingFails, NoneListed, Parses, Sees, StatusParameters, Thing, acting, aid_of, found_in, get_status_rules, lower_of};
 ghost use Rattle.policy_machine.specs.declared.get_status.RuleGS.TheVariants.{GS1};
 ghost use Rattle.policy_machine.specs.declared.instruction.TheConstants.{GET_STATUS};
-ghost use Rattle.policy_rules.specs.GetStatusRequests.{IsFirstShown, IsListOf, IsListedAs, IsListedAt, IsNextListed, IsPlaceBefore, IsThingAt, NoneListed, found_in, lower_of};
-ghost use Rattle.policy_rules.specs.Requests.{Parses};
-ghost use Rattle.policy_slots.specs.StateShown.{ActsIn};
 
 use crate::request::Request;
 use bertlv::read;

@@ -1,22 +1,10 @@
 //! INITIALIZE UPDATE (GlobalPlatform Amendment D, 7.1.1).
 
 ghost use Rattle.std.specs.Prelude.{◌≡◌, ◌≤◌, ◌&&◌, not, ℕ, List, None, Some, IfOk, IfErr, OnOk};
-ghost use Rattle.card_types.specs.Aid.{same_aid};
-ghost use Rattle.card_types.specs.Counters.{HasNextCounter};
-ghost use Rattle.card_types.specs.Represents.{IsInOrder, Represents, domain_aid, held};
-ghost use Rattle.card_types.specs.KeySets.{AreKeysOf, HaveKeyLength};
-ghost use Rattle.card_types.specs.Registry.{Registry};
-ghost use Rattle.card_types.specs.Well.{Well};
+ghost use Rattle.policy_rules.specs.Prelude.{ActsIn, Admitted, AreKeysOf, HasNextCounter, HaveKeyLength, InitializeUpdateFails, IsFirst, IsInOrder, Parses, Registry, Represents, UsesSetOfKey, Well, domain_aid, held, is_card_locked, offer_rules, same_aid};
 ghost use Rattle.card_types.specs.declared.factory.TheConstants.{ISSUER};
 ghost use Rattle.card_types.specs.declared.tables.Entry.{Entry};
-ghost use Rattle.policy_machine.specs.Admission.{Admitted};
-ghost use Rattle.policy_machine.specs.Refusal.{IsFirst};
-ghost use Rattle.policy_machine.specs.InitializeUpdate.{InitializeUpdateFails, offer_rules};
-ghost use Rattle.policy_slots.specs.KeyOrder.{UsesSetOfKey};
-ghost use Rattle.policy_machine.specs.Select.{is_card_locked};
 ghost use Rattle.policy_machine.specs.declared.instruction.TheConstants.{INITIALIZE_UPDATE};
-ghost use Rattle.policy_rules.specs.Requests.{Parses};
-ghost use Rattle.policy_slots.specs.StateShown.{ActsIn};
 
 use crate::request::Request;
 use card_types::{Aid, COUNTER_LIMIT, CardLife, KeySet, Tables, in_slot, set_with};

@@ -2,11 +2,8 @@
 
 ghost use Rattle.std.specs.Prelude.{◌≡◌, ◌<◌, ℕ, List, None, Some, IfOk, IfErr, length};
 ghost use Rattle.card_types.specs.declared.tables.Tables.{Tables};
-ghost use Rattle.policy_machine.specs.ManageChannel.{lowest_closed};
-ghost use Rattle.policy_machine.specs.State.{State};
+ghost use Rattle.policy_rules.specs.Prelude.{Parses, RepresentsState, State, lowest_closed};
 ghost use Rattle.policy_machine.specs.declared.instruction.TheConstants.{MANAGE_CHANNEL};
-ghost use Rattle.policy_rules.specs.Requests.{Parses};
-ghost use Rattle.policy_slots.specs.StateShown.{RepresentsState};
 
 use crate::request::Request;
 use policy_machine::{CHANNELS, Rule, RuleMC, RulePS};

@@ -1,17 +1,8 @@
 //! The first of a command's own rules that fails.
 
 ghost use Rattle.std.specs.Prelude.{◌≡◌, ◌<◌, ℕ, List, None, IsSome, slice_index_or};
-ghost use Rattle.apdu_core.specs.Apdu.{Apdu};
-ghost use Rattle.card_types.specs.Represents.{IsInOrder};
-ghost use Rattle.policy_machine.specs.Admission.{Admitted};
-ghost use Rattle.policy_machine.specs.Commands.{Judges};
-ghost use Rattle.policy_machine.specs.Refusal.{IsFirst};
-ghost use Rattle.policy_machine.specs.Load.{LoadFails, front_rules};
-ghost use Rattle.policy_machine.specs.PutKey.{TellsChecks};
-ghost use Rattle.policy_machine.specs.Sound.{IsSound};
+ghost use Rattle.policy_rules.specs.Prelude.{ActsAsBefore, Admitted, Apdu, IsFirst, IsInOrder, IsJudgedBehind, IsMeant, IsRequestOf, IsSound, Judges, LoadFails, RepresentsState, TellsChecks, front_rules};
 ghost use Rattle.policy_machine.specs.declared.instruction.TheConstants.{EXTERNAL_AUTHENTICATE, GET_STATUS, LOAD};
-ghost use Rattle.policy_rules.specs.Requests.{IsJudgedBehind, IsMeant, IsRequestOf};
-ghost use Rattle.policy_slots.specs.StateShown.{ActsAsBefore, RepresentsState};
 
 use crate::card_status::judge_card_status;
 use crate::delete_key::judge_delete_key;

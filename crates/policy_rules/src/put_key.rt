@@ -1,22 +1,11 @@
 //! PUT KEY (GlobalPlatform Card Specification 2.3.1, 11.8; Amendment D, 7.2).
 
 ghost use Rattle.std.specs.Prelude.{◌≡◌, ◌≤◌, ◌↔◌, ◌+◌, ℕ, List, None, Some, IfErr, IfNone, IfSome, IsTrue, OnOk, length};
-ghost use Rattle.card_types.specs.Represents.{IsInOrder};
-ghost use Rattle.card_types.specs.Well.{IsKeyLength};
-ghost use Rattle.key_rules.specs.PutFails.{NoneHolds, PutFails};
+ghost use Rattle.policy_rules.specs.Prelude.{ActsIn, Admitted, AreFields, BeginsWithKey, FailsFirst, HasKeyFields, IsFirst, IsInOrder, IsKeyLength, IsNewVersion, IsRequestOf, KeysAsked, NoFields, NoneHolds, Parses, PutFails, PutKeyFails, PutKeyParameters, SaysChecks, SentKey, command_form, key_count, key_rules, managed_put_key, sealed_size, sent_key, sent_keys, version_rules};
 ghost use Rattle.key_rules.specs.declared.refusal.PutRefusal.TheVariants.{Unknown, Taken, Full};
-ghost use Rattle.policy_machine.specs.Admission.{Admitted};
-ghost use Rattle.policy_machine.specs.Refusal.{IsFirst};
-ghost use Rattle.policy_machine.specs.KeyFields.{AreFields, BeginsWithKey, NoFields};
-ghost use Rattle.policy_machine.specs.PutKey.{PutKeyFails, HasKeyFields, IsNewVersion, PutKeyParameters, SaysChecks, SentKey, key_count, sealed_size, managed_put_key, KeysAsked};
-ghost use Rattle.policy_machine.specs.PutKeyRules.{key_rules, version_rules};
 ghost use Rattle.policy_machine.specs.declared.instruction.TheConstants.{PUT_KEY};
-ghost use Rattle.policy_machine.specs.CommandForm.{FailsFirst};
-ghost use Rattle.policy_machine.specs.ManagedForm.{command_form};
-ghost use Rattle.policy_rules.specs.Requests.{IsRequestOf, Parses, sent_key, sent_keys};
 ghost use Rattle.policy_rules.specs.declared.put_key.PutKeys.{PutKeys as Keys};
 ghost use Rattle.policy_rules.specs.declared.request.Request.TheVariants.{PutKey};
-ghost use Rattle.policy_slots.specs.StateShown.{ActsIn};
 
 use crate::request::Request;
 use card_types::Tables;

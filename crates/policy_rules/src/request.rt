@@ -1,9 +1,7 @@
 //! What a command asks for.
 
 ghost use Rattle.std.specs.Prelude.{IfOk, IfErr};
-ghost use Rattle.policy_machine.specs.Commands.{IsBuilt, Takes};
-ghost use Rattle.policy_machine.specs.Malformed.{IsMalformed};
-ghost use Rattle.policy_rules.specs.Requests.{Decodes, form_in};
+ghost use Rattle.policy_rules.specs.Prelude.{Decodes, IsBuilt, IsMalformed, Takes, form_in};
 
 use crate::entry_status::EntryStatusRequest;
 use crate::get_status::ListRequest;

@@ -2,13 +2,9 @@
 
 ghost use Rattle.std.specs.Prelude.{◌≡◌, ℕ, List, None, Some, IfOk, IfErr};
 ghost use Rattle.std.proofs.lemmas.Cmp.{nat_list_cmp_total, on_total};
-ghost use Rattle.card_types.specs.Aid.{aid_order};
-ghost use Rattle.card_types.specs.Represents.{IsInOrder, Represents, entry_of, held};
-ghost use Rattle.card_types.specs.Registry.{Registry};
+ghost use Rattle.policy_rules.specs.Prelude.{IsInOrder, Parses, Registry, Represents, aid_order, entry_of, fits_as, held, least_fitting};
 ghost use Rattle.card_types.specs.declared.factory.TheConstants.{ISSUER};
-ghost use Rattle.policy_machine.specs.Select.{fits_as, least_fitting};
 ghost use Rattle.policy_machine.specs.declared.instruction.TheConstants.{SELECT};
-ghost use Rattle.policy_rules.specs.Requests.{Parses};
 
 use crate::request::Request;
 use card_types::{Aid, CardLife, Entry, ISSUER, InSlot, Life, Search, Tables, least};

@@ -1,19 +1,10 @@
 //! STORE DATA (GlobalPlatform Card Specification 2.3.1, 11.11).
 
 ghost use Rattle.std.specs.Prelude.{◌≡◌, ◌↔◌, ◌+◌, ◌≤◌, ℕ, List, None, Some, IfErr, IsTrue, OnOk, length};
-ghost use Rattle.bertlv.specs.Spelling.{AreElements, Element};
-ghost use Rattle.card_types.specs.Represents.{IsInOrder, used};
-ghost use Rattle.card_types.specs.Well.{IsObject};
+ghost use Rattle.policy_rules.specs.Prelude.{ActsIn, Admitted, AreElements, AreObjects, Element, IsInOrder, IsObject, IsRequestOf, Judges, Parses, StoreDataField, StoreDataParameters, has_object_in, is_tagged_in, new_tags, used};
 ghost use Rattle.card_types.specs.declared.limits.TheConstants.{OBJECTS};
-ghost use Rattle.policy_machine.specs.Admission.{Admitted};
-ghost use Rattle.policy_machine.specs.Commands.{Judges};
-ghost use Rattle.policy_machine.specs.DataObjects.{AreObjects, new_tags};
-ghost use Rattle.policy_slots.specs.ObjectsHeld.{has_object_in, is_tagged_in};
-ghost use Rattle.policy_machine.specs.StoreData.{StoreDataField, StoreDataParameters};
 ghost use Rattle.policy_machine.specs.declared.instruction.TheConstants.{STORE_DATA};
-ghost use Rattle.policy_rules.specs.Requests.{IsRequestOf, Parses};
 ghost use Rattle.policy_rules.specs.declared.request.Request.TheVariants.{Store};
-ghost use Rattle.policy_slots.specs.StateShown.{ActsIn};
 
 use crate::request::Request;
 use bertlv::{Tlv, read};

@@ -4,3 +4,4 @@ pub mod KeyOrder
 pub mod LiveEnds
 pub mod ObjectsHeld
 pub mod RequestJudged
+pub mod Prelude

@@ -1,18 +1,9 @@
 //! Things and security domains by their AIDs, and what is above what and in whose charge, by slots.
 
 ghost use Rattle.std.specs.Prelude.{◌≡◌, ◌↔◌, ℕ, List, None, Some, IfNone, IfSome, IsSome, IsTrue};
-ghost use Rattle.card_types.specs.Found.{aid_of};
-ghost use Rattle.card_types.specs.Represents.{IsInOrder, Represents, domain_aid, file_of, held};
-ghost use Rattle.card_types.specs.Registry.{Registry, entry_named};
-ghost use Rattle.card_types.specs.Well.{IsDomainNamed, Well};
+ghost use Rattle.policy_slots.specs.Prelude.{ActsIn, Admitted, IsAboveIn, IsAtOrAbove, IsDomainNamed, IsFileInCharge, IsInCharge, IsInOrder, Registry, Represents, Well, acting, aid_of, domain_aid, domain_of_thing, entry_named, file_of, held};
 ghost use Rattle.card_types.specs.declared.found.Found.TheVariants.{Entry};
 ghost use Rattle.card_types.specs.declared.tables.LoadFile.{LoadFile};
-ghost use Rattle.domain_tree.specs.Above.{IsAboveIn};
-ghost use Rattle.policy_machine.specs.Admission.{Admitted};
-ghost use Rattle.policy_machine.specs.Charge.{IsAtOrAbove, IsFileInCharge, IsInCharge};
-ghost use Rattle.policy_machine.specs.Extradition.{domain_of_thing};
-ghost use Rattle.policy_machine.specs.Management.{acting};
-ghost use Rattle.policy_slots.specs.StateShown.{ActsIn};
 
 use crate::delegation::holds;
 use card_types::{Aid, Found, Privileges, Tables, find, in_slot};

@@ -3,19 +3,9 @@
 
 ghost use Rattle.std.specs.Prelude.{◌≡◌, ◌↔◌, ◌≤◌, ℕ, List, None, Some, false, IfErr, IfNone, IfOk, IfSome, IsSome, IsTrue, OnOk, length};
 ghost use Rattle.std.specs.List.{list_any};
-ghost use Rattle.card_types.specs.Represents.{IsInOrder, domain_aid, key_of, held};
-ghost use Rattle.card_types.specs.KeySets.{HasKey};
-ghost use Rattle.card_types.specs.Privileges.{bits_of, delegated_management};
-ghost use Rattle.card_types.specs.Well.{IsKeyLength};
-ghost use Rattle.domain_tree.specs.Holders.{entry_has};
-ghost use Rattle.policy_machine.specs.Admission.{Admitted};
-ghost use Rattle.policy_machine.specs.Delegation.{Holds, IsNearestHolder, MayManage, NoHolder, ReceiptFails, TokenFails, token_rules};
-ghost use Rattle.policy_machine.specs.Refusal.{IsFirst};
-ghost use Rattle.policy_machine.specs.Management.{acting};
+ghost use Rattle.policy_slots.specs.Prelude.{ActsIn, Admitted, FindsReceipter, ForActing, HasKey, Holds, IsFirst, IsInOrder, IsKeyLength, IsNearestHolder, IsSignedFor, MayManage, MayReceipt, NoHolder, ReceiptFails, TokenFails, acting, approval_of, bits_of, delegated_management, domain_aid, entry_has, has_with_key_in, held, key_of, token, token_rules};
+ghost use Rattle.policy_slots.specs.HoldersFound.{holds_lone_key as holds_lone_key_by};
 ghost use Rattle.policy_machine.specs.declared.delegation.RuleRC.TheVariants.{RC1};
-ghost use Rattle.policy_slots.specs.StateShown.{ActsIn, ForActing};
-ghost use Rattle.policy_slots.specs.HoldersFound.{FindsReceipter, IsSignedFor, MayReceipt, approval_of, has_with_key_in, holds_lone_key as holds_lone_key_by};
-ghost use Rattle.tokens_receipts.specs.Token.{token};
 
 use aes_block::{BlockKey, SealingAes128, SealingAes192, SealingAes256};
 use bitflags::Flags;

@@ -2,16 +2,7 @@
 //! chapter 9): it is judged by the rules that such commands have in common, by those of its form, and by those on its approval.
 
 ghost use Rattle.std.specs.Prelude.{◌≡◌, ◌↔◌, ◌≤◌, ℕ, Bool, List, None, Some, true, IfErr, IfOk, IfSome, IsTrue, OnOk, length};
-ghost use Rattle.apdu_core.specs.Apdu.{Apdu};
-ghost use Rattle.card_types.specs.Represents.{IsInOrder};
-ghost use Rattle.card_types.specs.Privileges.{delegated_management};
-ghost use Rattle.policy_machine.specs.Admission.{Admitted};
-ghost use Rattle.policy_machine.specs.Delegation.{Holds};
-ghost use Rattle.policy_machine.specs.Refusal.{IsFirst};
-ghost use Rattle.policy_machine.specs.ManagedForm.{AskedFails, JudgedFirst, JudgedForm, OwnFirst, IsJudgeable};
-ghost use Rattle.policy_slots.specs.StateShown.{ForActing};
-ghost use Rattle.policy_slots.specs.HoldersFound.{FindsConfirmer, MayReceipt};
-ghost use Rattle.policy_slots.specs.RequestJudged.{IsBroughtFor, IsTokenForm, OwnRefuses};
+ghost use Rattle.policy_slots.specs.Prelude.{Admitted, Apdu, AskedFails, FindsConfirmer, ForActing, Holds, IsBroughtFor, IsFirst, IsInOrder, IsJudgeable, IsTokenForm, JudgedFirst, JudgedForm, MayReceipt, OwnFirst, OwnRefuses, delegated_management};
 
 use crate::delegation::{Signed, is_delegate, judge_receipt, judge_token};
 use crate::live::Live;

@@ -2,8 +2,8 @@
 
 ghost use Rattle.std.specs.Prelude.{◌≡◌, ◌≤◌, ℕ, IfSome, IfNone, length};
 ghost use Rattle.std.proofs.lemmas.Cmp.{nat_cmp_total, on_total, then_total};
-ghost use Rattle.card_types.specs.Search.{IsLeast, NoneFits};
-ghost use Rattle.policy_slots.specs.KeyOrder.{follows, is_past as is_past_name, keeps_counter_of, keeps_counter_with, name_order, version_order};
+ghost use Rattle.policy_slots.specs.Prelude.{IsLeast, NoneFits, follows, keeps_counter_of, keeps_counter_with, name_order, version_order};
+ghost use Rattle.policy_slots.specs.KeyOrder.{is_past as is_past_name};
 
 use card_types::{InSlot, KEYS, KeyRec, Search, least};
 

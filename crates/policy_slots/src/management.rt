@@ -1,15 +1,11 @@
 //! The rules that the commands of card content management and INITIALIZE UPDATE have in common.
 
 ghost use Rattle.std.specs.Prelude.{◌≡◌, ◌↔◌, ◌⊎◌, ℕ, List, Some, IfErr, IsTrue, OnOk};
-ghost use Rattle.card_types.specs.Aid.{same_aid};
-ghost use Rattle.card_types.specs.Represents.{held};
+ghost use Rattle.policy_slots.specs.Prelude.{ActsIn, Admitted, ManagementFails, TellsCard, acting, held, same_aid};
 ghost use Rattle.card_types.specs.declared.factory.TheConstants.{ISSUER};
 ghost use Rattle.card_types.specs.declared.tables.Entry.{Entry};
-ghost use Rattle.policy_machine.specs.Admission.{Admitted};
-ghost use Rattle.policy_machine.specs.Management.{ManagementFails, acting};
 ghost use Rattle.policy_machine.specs.declared.management.RuleM.TheVariants.{M1, M2, M3};
 ghost use Rattle.policy_machine.specs.declared.rule.Rule.TheVariants.{M};
-ghost use Rattle.policy_slots.specs.StateShown.{ActsIn, TellsCard};
 
 use card_types::{Aid, CardLife, ISSUER, Tables, in_slot};
 use policy_machine::{Rule, RuleM};

@@ -1,13 +1,9 @@
 //! Which key sets a session uses.
 
 ghost use Rattle.std.specs.Prelude.{◌≡◌, ℕ, List, Some, true, IfSome, IfNone};
-ghost use Rattle.card_types.specs.Represents.{IsInOrder, Represents, domain_aid, keeps_counter as keeps_counter_by, held};
-ghost use Rattle.card_types.specs.Registry.{Registry};
-ghost use Rattle.card_types.specs.Well.{Well};
+ghost use Rattle.policy_slots.specs.Prelude.{IsInOrder, NoSetToUse, OwnsSets, Registry, Represents, UsesSetOfKey, Well, domain_aid, has_set_in, held, holds_counter_of};
+ghost use Rattle.card_types.specs.Represents.{keeps_counter as keeps_counter_by};
 ghost use Rattle.card_types.specs.declared.tables.Entry.{Entry};
-ghost use Rattle.policy_machine.specs.KeySets.{NoSetToUse, OwnsSets};
-ghost use Rattle.policy_slots.specs.KeyOrder.{UsesSetOfKey};
-ghost use Rattle.policy_slots.specs.KeyOrder.{has_set_in, holds_counter_of};
 
 use crate::key_order::{keeps_counter, lowest_set, numbered_set};
 use card_types::{InSlot, KeyRec, Tables};

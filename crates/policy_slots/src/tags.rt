@@ -1,8 +1,7 @@
 //! Tags of data objects (ISO/IEC 8825-1).
 
 ghost use Rattle.std.specs.Prelude.{◌≡◌, List};
-ghost use Rattle.bertlv.specs.Spelling.{AreElements, Element};
-ghost use Rattle.policy_machine.specs.DataObjects.{has_tag_in};
+ghost use Rattle.policy_slots.specs.Prelude.{AreElements, Element, has_tag_in};
 
 use bertlv::read;
 

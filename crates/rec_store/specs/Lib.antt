@@ -15,3 +15,4 @@ pub mod Reading
 pub mod Contents
 pub mod Laws
 pub mod Keeper
+pub mod Prelude

@@ -1,9 +1,7 @@
 //! Bytes of any length in a slot: one byte says how many there are, and they stand after it.
 
 ghost use Rattle.std.specs.Prelude.{◌≡◌, ◌+◌, ◌<◌, ◌≤◌, ◌^◌, ℕ, List, length, slice_index, IfOk, OnErr};
-ghost use Rattle.byteorder.specs.Endian.{big_from};
-ghost use Rattle.card_types.specs.Aid.{IsAid};
-ghost use Rattle.rec_store.specs.Bytes.{HasBytesAt};
+ghost use Rattle.rec_store.specs.Prelude.{HasBytesAt, IsAid, big_from};
 
 use crate::slot::BadSlot;
 use byteorder::{BigEndian, ByteOrder};

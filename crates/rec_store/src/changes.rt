@@ -1,12 +1,8 @@
 //! Changes of the tables, which are staged.
 
 ghost use Rattle.std.specs.Prelude.{◌≡◌, ◌<◌, true, IfSome};
-ghost use Rattle.card_check.specs.IsCard.{IsInLoadPages};
-ghost use Rattle.card_types.specs.SlotChange.{SetsEntry, SetsFile, SetsKey, SetsObject};
+ghost use Rattle.rec_store.specs.Prelude.{HasFrame, IsInLoadPages, IsRoomyKey, SetsEntry, SetsFile, SetsKey, SetsObject, entry_page, file_page, key_page, object_page, with_staged};
 ghost use Rattle.card_types.specs.declared.limits.TheConstants.{ENTRIES, FILES, KEYS, OBJECTS};
-ghost use Rattle.rec_store.specs.KeySlot.{IsRoomyKey};
-ghost use Rattle.rec_store.specs.Places.{entry_page, file_page, key_page, object_page};
-ghost use Rattle.rec_store.specs.Room.{HasFrame, with_staged};
 
 use crate::records::Records;
 use crate::slots::stage_slots;

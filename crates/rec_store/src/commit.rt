@@ -1,12 +1,7 @@
 //! A commit of changes.
 
 ghost use Rattle.std.specs.Prelude.{◌≡◌, [], false, true, IsOk, OnErr, OnOk};
-ghost use Rattle.card_check.specs.IsCard.{IsCard};
-ghost use Rattle.card_types.specs.Registry.{Registry};
-ghost use Rattle.card_types.specs.Represents.{Represents};
-ghost use Rattle.faults.specs.Faults.{HasCause};
-ghost use Rattle.page_journal.specs.Moments.{LeavesOnly};
-ghost use Rattle.rec_store.specs.Reopens.{AreSpare, Keeps, ReopensEither, load_page};
+ghost use Rattle.rec_store.specs.Prelude.{AreSpare, HasCause, IsCard, Keeps, LeavesOnly, Registry, ReopensEither, Represents, load_page};
 
 use crate::records::Records;
 use flash_core::{Flash, FlashFailed};

@@ -1,11 +1,9 @@
 //! The load directory of an Executable Load File.
 
 ghost use Rattle.std.specs.Prelude.{◌≡◌, ◌<◌, ◌≤◌, ◌+◌, ◌-◌, ◌/◌, ◌%◌, ◌^◌, ℕ, All, length, slice_index, take};
-ghost use Rattle.card_check.specs.IsCard.{IsInLoadPages};
+ghost use Rattle.rec_store.specs.Prelude.{IsFileIn, IsInLoadPages, IsLoadPage, page_in};
 ghost use Rattle.flash_core.specs.declared.page.TheConstants.{PAGES};
-ghost use Rattle.page_journal.specs.Pages.{IsLoadPage};
 ghost use Rattle.page_journal.specs.declared.pages.TheConstants.{FIRST_LOAD_PAGE};
-ghost use Rattle.rec_store.specs.FileSlot.{IsFileIn, page_in};
 ghost use Rattle.std.proofs.Common.{lit<, lit≤, refl};
 
 use crate::bytes::{aid_at, put_bytes, put_u16};

@@ -1,11 +1,9 @@
 //! What keeps the key slots of a card.
 
 ghost use Rattle.std.specs.Prelude.{◌≡◌, ◌<◌, List, Option, All, IfSome, length, slice_set};
-ghost use Rattle.card_types.specs.Represents.{used};
+ghost use Rattle.rec_store.specs.Prelude.{IsRoomy, IsRoomyKey, SameElse, same_else_on, same_else_self, used};
 ghost use Rattle.card_types.specs.declared.limits.TheConstants.{KEYS};
 ghost use Rattle.card_types.specs.declared.tables.KeyRec.{KeyRec as KeyOf};
-ghost use Rattle.rec_store.specs.Keeper.{IsRoomy, SameElse, same_else_on, same_else_self};
-ghost use Rattle.rec_store.specs.KeySlot.{IsRoomyKey};
 
 use crate::records::Records;
 use card_types::KeyRec;

@@ -1,16 +1,9 @@
 //! A card laid out on a device.
 
 ghost use Rattle.std.specs.Prelude.{◌≡◌, ◌<◌, ◌≤◌, ℕ, All, OnOk, slice_get};
-ghost use Rattle.card_check.specs.IsCard.{IsCard, IsInLoadPages};
-ghost use Rattle.card_types.specs.Registry.{Registry};
-ghost use Rattle.card_types.specs.Represents.{Represents, used};
+ghost use Rattle.rec_store.specs.Prelude.{HasCause, HasFirst, HaveRoom, HoldsTables, IsCard, IsInLoadPages, IsRoomyKey, Keeps, Registry, Represents, load_page, store_in, used};
 ghost use Rattle.card_types.specs.declared.tables.Tables.{Tables};
-ghost use Rattle.faults.specs.Faults.{HasCause};
 ghost use Rattle.page_journal.specs.declared.pages.TheConstants.{GATE, STORE_PAGES};
-ghost use Rattle.rec_store.specs.FirstSlots.{HasFirst, HaveRoom};
-ghost use Rattle.rec_store.specs.KeySlot.{IsRoomyKey};
-ghost use Rattle.rec_store.specs.Reopens.{Keeps, load_page, store_in};
-ghost use Rattle.rec_store.specs.StoredTables.{HoldsTables};
 ghost use Rattle.rec_store.specs.declared.store_layout.Layout.TheVariants.{Third};
 
 use crate::slots::write_slots;

@@ -1,12 +1,7 @@
 //! Load pages.
 
 ghost use Rattle.std.specs.Prelude.{◌≡◌, ◌≢◌, ◌<◌, ℕ, true, OnOk};
-ghost use Rattle.card_types.specs.Registry.{Registry};
-ghost use Rattle.card_types.specs.Represents.{Represents};
-ghost use Rattle.faults.specs.Faults.{HasCause};
-ghost use Rattle.page_journal.specs.Moments.{LeavesOnly};
-ghost use Rattle.page_journal.specs.Pages.{IsLoadPage};
-ghost use Rattle.rec_store.specs.Reopens.{IsFree, IsSpare, Keeps, Reopens, load_page};
+ghost use Rattle.rec_store.specs.Prelude.{HasCause, IsFree, IsLoadPage, IsSpare, Keeps, LeavesOnly, Registry, Reopens, Represents, load_page};
 
 use crate::records::Records;
 use flash_core::{Flash, FlashFailed, Page};

@@ -1,10 +1,9 @@
 //! The key slots of a card in memory.
 
 ghost use Rattle.std.specs.Prelude.{◌≡◌, List, Option, None, All, IfOk, length, replicate};
-ghost use Rattle.card_types.specs.Represents.{used};
+ghost use Rattle.rec_store.specs.Prelude.{IsRoomyKey, used};
 ghost use Rattle.card_types.specs.declared.limits.TheConstants.{KEYS};
 ghost use Rattle.card_types.specs.declared.tables.KeyRec.{KeyRec as KeyOf};
-ghost use Rattle.rec_store.specs.KeySlot.{IsRoomyKey};
 
 use crate::keeper::RecordKeeper;
 use card_types::{KEYS, KeyRec};

@@ -1,18 +1,8 @@
 //! Power on: the tables are read from a device.
 
 ghost use Rattle.std.specs.Prelude.{◌≡◌, ◌≤◌, ℕ, List, [], true, All, IfOk, IfErr, OnOk};
-ghost use Rattle.card_check.specs.IsCard.{HasPages, IsCard};
-ghost use Rattle.card_types.specs.Represents.{IsInOrder, Represents, used, HasSlots};
-ghost use Rattle.card_types.specs.Registry.{Registry};
+ghost use Rattle.rec_store.specs.Prelude.{Always, AreRoomy, AreSpare, CardFails, HasPages, HasSlots, HasThreeBytes, HasValidJournal, HoldsTables, IsAtRest, IsCard, IsInLayout, IsInOrder, IsRead, IsUnwritten, Keeps, LeavesOnly, Only, OpenFails, Registry, Reopens, ReopensAsOne, Represents, SlotsFail, load_page, opened_cause, store_page, used};
 ghost use Rattle.card_types.specs.declared.tables.Tables.{Tables as TablesOf};
-ghost use Rattle.flash_core.specs.Device.{Only};
-ghost use Rattle.page_journal.specs.Journal.{HasValidJournal};
-ghost use Rattle.page_journal.specs.Moments.{Always, LeavesOnly};
-ghost use Rattle.rec_store.specs.Contents.{CardFails, IsUnwritten, OpenFails, SlotsFail, opened_cause};
-ghost use Rattle.rec_store.specs.EntrySlot.{HasThreeBytes};
-ghost use Rattle.rec_store.specs.Reopens.{AreSpare, IsAtRest, IsInLayout, Keeps, Reopens, ReopensAsOne, load_page, store_page};
-ghost use Rattle.rec_store.specs.Reading.{IsRead};
-ghost use Rattle.rec_store.specs.StoredTables.{AreRoomy, HoldsTables};
 ghost use Rattle.rec_store.specs.declared.store_layout.Layout.{Layout as LayoutOf};
 ghost use Rattle.rec_store.specs.declared.store_layout.Layout.TheVariants.{Third};
 

@@ -1,15 +1,8 @@
 //! A card of an earlier layout is brought into the present one.
 
 ghost use Rattle.std.specs.Prelude.{◌≡◌, [], true, IsOk, OnOk};
-ghost use Rattle.card_types.specs.Registry.{Registry};
+ghost use Rattle.rec_store.specs.Prelude.{Always, HasCause, HasValidJournal, HoldsTables, IsInLayout, IsSuperblock, Keeps, LeavesOnly, Only, Registry, Reopens, load_page, store_page};
 ghost use Rattle.card_types.specs.declared.tables.Tables.{Tables};
-ghost use Rattle.faults.specs.Faults.{HasCause};
-ghost use Rattle.flash_core.specs.Device.{Only};
-ghost use Rattle.page_journal.specs.Journal.{HasValidJournal};
-ghost use Rattle.page_journal.specs.Moments.{Always, LeavesOnly};
-ghost use Rattle.rec_store.specs.Reopens.{IsInLayout, Keeps, Reopens, load_page, store_page};
-ghost use Rattle.rec_store.specs.StoredTables.{HoldsTables};
-ghost use Rattle.rec_store.specs.Superblock.{IsSuperblock};
 ghost use Rattle.rec_store.specs.declared.store_layout.Layout.TheVariants.{Third};
 
 use crate::store_layout::Layout;

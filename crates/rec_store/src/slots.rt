@@ -1,19 +1,10 @@
 //! All slots of one kind.
 
 ghost use Rattle.std.specs.Prelude.{◌≡◌, ◌≢◌, ◌⊎◌, ◌+◌, ◌*◌, ◌/◌, ◌%◌, ◌<◌, ◌≤◌, ℕ, [], Option, true, length, slice_get, All, IsSome, IfSome, IfOk, OnOk, OnErr, IfErr};
-ghost use Rattle.card_types.specs.Represents.{used, held};
-ghost use Rattle.faults.specs.Faults.{HasCause, Rose};
+ghost use Rattle.rec_store.specs.Prelude.{AreHeld, HasCause, Holds, HoldsPage, IsRead, IsStorePage, Rose, SlotsFail, held, slot_at, slot_from, staged, store_in, store_page, used, with_page};
 ghost use Rattle.flash_core.specs.declared.page.Page.{Page as PageOf};
-ghost use Rattle.frame_pool.specs.Staged.{staged, with_page};
 ghost use Rattle.frame_pool.specs.declared.pool.TheConstants.{FRAMES};
-ghost use Rattle.page_journal.specs.Pages.{IsStorePage};
 ghost use Rattle.page_journal.specs.declared.pages.TheConstants.{STORE_PAGES};
-ghost use Rattle.rec_store.specs.Contents.{SlotsFail};
-ghost use Rattle.rec_store.specs.Reopens.{store_in, store_page};
-ghost use Rattle.rec_store.specs.Places.{slot_at, slot_from};
-ghost use Rattle.rec_store.specs.Reading.{IsRead};
-ghost use Rattle.rec_store.specs.Slot.{Holds};
-ghost use Rattle.rec_store.specs.StoredTables.{AreHeld, HoldsPage};
 
 use crate::open::OpenCause;
 use crate::slot::{BadSlot, Slot, read, write};

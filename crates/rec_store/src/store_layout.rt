@@ -1,9 +1,8 @@
 //! The layouts of store pages.
 
 ghost use Rattle.std.specs.Prelude.{◌≡◌, ◌↔◌, IfNone, IfSome, IsTrue};
-ghost use Rattle.rec_store.specs.StoreLayout.{FitsLayout, IsShort, layout_code};
+ghost use Rattle.rec_store.specs.Prelude.{FitsLayout, IsShort, layout_code, used};
 ghost use Rattle.std.specs.Prelude.{All};
-ghost use Rattle.card_types.specs.Represents.{used};
 
 use card_types::KeyRec;
 

@@ -4,3 +4,4 @@ pub mod Removing
 pub mod Setting
 pub mod TableLists
 pub mod Tree
+pub mod Prelude

@@ -2,17 +2,9 @@
 
 ghost use Rattle.std.proofs.Common.{lit<};
 ghost use Rattle.std.specs.Prelude.{◌≡◌, ◌≢◌, ℕ, List, [], true, IsSome};
-ghost use Rattle.card_types.specs.Registry.{Registry};
-ghost use Rattle.card_types.specs.RegistryChange.{without_applications};
-ghost use Rattle.card_types.specs.Represents.{Represents, file_aid, held};
-ghost use Rattle.card_types.specs.Well.{Well};
+ghost use Rattle.registry.specs.Prelude.{HasRoomFor, IsUnloaded, KeepsRoom, Registry, RemovesApplications, Represents, StagesChanged, Well, entry_file, entry_page, entry_pages, file_aid, held, lists_of, without_applications};
 ghost use Rattle.card_types.specs.declared.factory.TheConstants.{FACTORY_FILE};
 ghost use Rattle.card_types.specs.declared.limits.TheConstants.{ENTRIES};
-ghost use Rattle.rec_store.specs.Places.{entry_page};
-ghost use Rattle.rec_store.specs.Room.{HasRoomFor};
-ghost use Rattle.registry.specs.TableLists.{lists_of};
-ghost use Rattle.registry.specs.Pages.{KeepsRoom, StagesChanged, entry_pages};
-ghost use Rattle.registry.specs.Removing.{IsUnloaded, RemovesApplications, entry_file};
 
 use crate::entries::put_entry;
 use crate::owned::{Owned, free_owned};

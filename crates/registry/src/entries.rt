@@ -1,18 +1,8 @@
 //! Entries: they are added, and changed in their slots (GlobalPlatform Card Specification 2.3.1, 6.5).
 
 ghost use Rattle.std.specs.Prelude.{◌≡◌, ◌↔◌, ◌<◌, ℕ, List, true, length, Err, IfOk, OnErr, OnOk, IsSome};
-ghost use Rattle.card_types.specs.Search.{NoneFree};
-ghost use Rattle.card_types.specs.Registry.{Registry};
-ghost use Rattle.card_types.specs.RegistryChange.{IsEntryAdded, with_life, with_receipts};
-ghost use Rattle.card_types.specs.Represents.{Represents, domain_aid, entry_of, held};
-ghost use Rattle.card_types.specs.SlotChange.{SetsEntry};
-ghost use Rattle.card_types.specs.Well.{Well};
+ghost use Rattle.registry.specs.Prelude.{AddsEntry, ChangesEntry, HasRoomFor, IsEntryAdded, IsTaken, KeepsRoom, NoneFree, NoneHas, Registry, Represents, SetsEntry, Well, domain_aid, entry_of, entry_page, entry_pages, held, with_life, with_receipts, with_staged};
 ghost use Rattle.card_types.specs.declared.limits.TheConstants.{ENTRIES};
-ghost use Rattle.rec_store.specs.Places.{entry_page};
-ghost use Rattle.rec_store.specs.Room.{HasRoomFor, with_staged};
-ghost use Rattle.registry.specs.Adding.{AddsEntry, IsTaken, NoneHas};
-ghost use Rattle.registry.specs.Pages.{KeepsRoom, entry_pages};
-ghost use Rattle.registry.specs.Setting.{ChangesEntry};
 
 use crate::place::place;
 use crate::refusal::AddRefusal;

@@ -1,19 +1,8 @@
 //! Executable Load Files: they are added and removed (GlobalPlatform Card Specification 2.3.1, 9.3 and 9.5).
 
 ghost use Rattle.std.specs.Prelude.{◌≡◌, ◌↔◌, ℕ, List, [], ◌∷◌, true, None, length, Err, IfOk, OnErr, OnOk, IsSome};
-ghost use Rattle.card_check.specs.IsCard.{IsInLoadPages};
-ghost use Rattle.card_types.specs.Search.{IsFirstFree, NoneFree};
-ghost use Rattle.card_types.specs.Registry.{Registry};
-ghost use Rattle.card_types.specs.RegistryChange.{IsFileAdded, without_file};
-ghost use Rattle.card_types.specs.Represents.{Represents, file_aid, file_of, held};
-ghost use Rattle.card_types.specs.SlotChange.{SetsFile};
-ghost use Rattle.card_types.specs.Well.{Well};
+ghost use Rattle.registry.specs.Prelude.{AddsFile, HasRoomFor, IsFileAdded, IsFirstFree, IsInLoadPages, IsTaken, IsUnloaded, KeepsRoom, NoneFree, NoneHas, Registry, Represents, SetsFile, Well, file_aid, file_of, file_page, held, with_staged, without_file};
 ghost use Rattle.card_types.specs.declared.limits.TheConstants.{FILES};
-ghost use Rattle.rec_store.specs.Places.{file_page};
-ghost use Rattle.rec_store.specs.Room.{HasRoomFor, with_staged};
-ghost use Rattle.registry.specs.Adding.{AddsFile, IsTaken, NoneHas};
-ghost use Rattle.registry.specs.Pages.{KeepsRoom};
-ghost use Rattle.registry.specs.Removing.{IsUnloaded};
 
 use crate::place::place;
 use crate::refusal::AddRefusal;

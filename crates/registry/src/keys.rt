@@ -3,10 +3,7 @@
 ghost use Rattle.std.proofs.Common.{lit<};
 ghost use Rattle.std.specs.Prelude.{[]};
 ghost use Rattle.card_types.specs.declared.limits.TheConstants.{KEYS};
-ghost use Rattle.rec_store.specs.Places.{key_page};
-ghost use Rattle.registry.specs.TableLists.{lists_of};
-ghost use Rattle.registry.specs.Pages.{owner_pages};
-ghost use Rattle.registry.specs.Removing.{key_owner};
+ghost use Rattle.registry.specs.Prelude.{key_owner, key_page, lists_of, owner_pages};
 
 use crate::owned::Owned;
 use card_types::{KEYS, KeyRec};

@@ -2,18 +2,8 @@
 
 ghost use Rattle.std.specs.Prelude.{◌≡◌, ◌≢◌, ◌↔◌, ◌<◌, ℕ, List, Bool, true, Some, IfNone, IfSome, IsSome, IsTrue, length};
 ghost use Rattle.std.specs.Option.{option_map};
-ghost use Rattle.card_types.specs.Registry.{Registry};
-ghost use Rattle.card_types.specs.RegistryChange.{with_locks};
-ghost use Rattle.card_types.specs.Represents.{Represents, domain_aid, held};
-ghost use Rattle.card_types.specs.Well.{Well};
+ghost use Rattle.registry.specs.Prelude.{ChangesEntry, HasRoomFor, IsFreeOfLoops, IsInTree, IsTreeOf, KeepsRoom, LocksTree, Registry, Represents, StagesChanged, Well, domain_aid, entry_page, entry_pages, held, with_lock, with_locks};
 ghost use Rattle.card_types.specs.declared.limits.TheConstants.{ENTRIES};
-ghost use Rattle.domain_tree.specs.Above.{IsTreeOf};
-ghost use Rattle.domain_tree.specs.Slots.{IsFreeOfLoops};
-ghost use Rattle.rec_store.specs.Places.{entry_page};
-ghost use Rattle.rec_store.specs.Room.{HasRoomFor};
-ghost use Rattle.registry.specs.Pages.{KeepsRoom, StagesChanged, entry_pages};
-ghost use Rattle.registry.specs.Setting.{ChangesEntry};
-ghost use Rattle.registry.specs.Tree.{IsInTree, LocksTree, with_lock};
 
 use crate::entries::put_entry;
 use card_types::{ENTRIES, Entry, in_slot};

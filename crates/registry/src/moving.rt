@@ -1,14 +1,7 @@
 //! Extradition: a thing goes to another security domain (GlobalPlatform Card Specification 2.3.1, 9.4.1).
 
 ghost use Rattle.std.specs.Prelude.{◌≡◌, ℕ, List, true, Some, IsSome};
-ghost use Rattle.card_types.specs.Found.{aid_of};
-ghost use Rattle.card_types.specs.Registry.{Registry};
-ghost use Rattle.card_types.specs.RegistryChange.{moved};
-ghost use Rattle.card_types.specs.Represents.{Represents, domain_aid, held};
-ghost use Rattle.card_types.specs.Well.{Well};
-ghost use Rattle.rec_store.specs.Room.{HasRoomFor, with_staged};
-ghost use Rattle.registry.specs.Pages.{KeepsRoom, thing_page, thing_pages};
-ghost use Rattle.registry.specs.Setting.{Moves};
+ghost use Rattle.registry.specs.Prelude.{HasRoomFor, KeepsRoom, Moves, Registry, Represents, Well, aid_of, domain_aid, held, moved, thing_page, thing_pages, with_staged};
 
 use crate::entries::put_entry;
 use card_types::{Found, in_slot};

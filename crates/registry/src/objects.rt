@@ -3,10 +3,7 @@
 ghost use Rattle.std.proofs.Common.{lit<};
 ghost use Rattle.std.specs.Prelude.{[]};
 ghost use Rattle.card_types.specs.declared.limits.TheConstants.{OBJECTS};
-ghost use Rattle.rec_store.specs.Places.{object_page};
-ghost use Rattle.registry.specs.TableLists.{lists_of};
-ghost use Rattle.registry.specs.Pages.{owner_pages};
-ghost use Rattle.registry.specs.Removing.{object_owner};
+ghost use Rattle.registry.specs.Prelude.{lists_of, object_owner, object_page, owner_pages};
 
 use crate::owned::Owned;
 use card_types::{OBJECTS, Object};

@@ -1,12 +1,8 @@
 //! What one thing owns, in slots of one kind (GlobalPlatform Card Specification 2.3.1, 9.5).
 
 ghost use Rattle.std.specs.Prelude.{◌≡◌, ◌<◌, ℕ, List, Option, true, None, length, map, slice_set};
-ghost use Rattle.card_types.specs.Represents.{held};
+ghost use Rattle.registry.specs.Prelude.{HasRoomFor, KeepsRoom, StagesChanged, TableLists, freed, held, is_owned, with_staged};
 ghost use Rattle.card_types.specs.declared.tables.Tables.{Tables};
-ghost use Rattle.rec_store.specs.Room.{HasRoomFor, with_staged};
-ghost use Rattle.registry.specs.TableLists.{TableLists};
-ghost use Rattle.registry.specs.Pages.{KeepsRoom, StagesChanged};
-ghost use Rattle.registry.specs.Removing.{freed, is_owned};
 
 use card_types::in_slot;
 use flash_core::Flash;

@@ -1,9 +1,7 @@
 //! Where a thing is added (this profile's own).
 
 ghost use Rattle.std.specs.Prelude.{◌≤◌, IfOk, IfErr, OnOk, length};
-ghost use Rattle.card_types.specs.Search.{IsFirstFree};
-ghost use Rattle.card_types.specs.Represents.{HasSlots};
-ghost use Rattle.registry.specs.Adding.{NoneHas, PlaceFails};
+ghost use Rattle.registry.specs.Prelude.{HasSlots, IsFirstFree, NoneHas, PlaceFails};
 
 use crate::refusal::AddRefusal;
 use card_types::{Aid, Tables, find, first_free};

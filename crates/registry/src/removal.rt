@@ -1,13 +1,7 @@
 //! An entry is removed, with the keys and data objects that it owns (GlobalPlatform Card Specification 2.3.1, 9.5).
 
 ghost use Rattle.std.specs.Prelude.{◌≡◌, ℕ, List, true, IsSome};
-ghost use Rattle.card_types.specs.Registry.{Registry};
-ghost use Rattle.card_types.specs.RegistryChange.{without_entry};
-ghost use Rattle.card_types.specs.Represents.{Represents, domain_aid, held};
-ghost use Rattle.card_types.specs.Well.{Well};
-ghost use Rattle.rec_store.specs.Room.{HasRoomFor};
-ghost use Rattle.registry.specs.Pages.{KeepsRoom, owner_pages};
-ghost use Rattle.registry.specs.Removing.{IsNoDomain, RemovesEntry, StagesOwned};
+ghost use Rattle.registry.specs.Prelude.{HasRoomFor, IsNoDomain, KeepsRoom, Registry, RemovesEntry, Represents, StagesOwned, Well, domain_aid, held, owner_pages, without_entry};
 
 use crate::owned::free_owned;
 use card_types::{KeyRec, Object};

@@ -24,3 +24,4 @@ pub mod TokenKey
 pub mod Tokens
 pub mod Verb
 pub mod Workload
+pub mod Prelude

@@ -1,8 +1,7 @@
 //! The blocks of an Executable Load File (GlobalPlatform Card Specification 2.3.1, 11.6).
 
 ghost use Rattle.std.specs.Prelude.{◌≡◌, ◌∷◌};
-ghost use Rattle.apdu_core.specs.Apdu.{apdu_of};
-ghost use Rattle.script_lines.specs.Load.{length_field, loading};
+ghost use Rattle.script_lines.specs.Prelude.{apdu_of, length_field, loading};
 
 use apdu_core::Command;
 use arrayvec::ArrayVec;

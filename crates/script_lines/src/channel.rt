@@ -1,8 +1,7 @@
 //! Logical channels (GlobalPlatform Card Specification 2.3.1, 11.1.4).
 
 ghost use Rattle.std.specs.Prelude.{◌≡◌, ◌+◌, ◌∷◌, [], ◌<◌};
-ghost use Rattle.script_lines.specs.Channel.{SaysChannel, number_of};
-ghost use Rattle.script_lines.specs.Words.{Reads, left};
+ghost use Rattle.script_lines.specs.Prelude.{Reads, SaysChannel, left, number_of};
 
 use crate::words::Words;
 

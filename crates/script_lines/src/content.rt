@@ -1,9 +1,7 @@
 //! The bytes of a Load File, piece by piece (GlobalPlatform Card Specification 2.3.1, 11.6 and C.2).
 
 ghost use Rattle.std.specs.Prelude.{◌≡◌, ◌≤◌, drop, length, take};
-ghost use Rattle.sha1.specs.Sha1.{sha1};
-ghost use Rattle.sha2.specs.Sha256.{sha256};
-ghost use Rattle.script_lines.specs.Load.{content_bytes};
+ghost use Rattle.script_lines.specs.Prelude.{content_bytes, sha1, sha256};
 
 use crate::load_file::Content;
 use arrayvec::ArrayVec;

@@ -1,7 +1,6 @@
 //! The lines that send nothing to the card (this profile's own).
 
-ghost use Rattle.script_lines.specs.Control.{SaysControl, SaysWant};
-ghost use Rattle.script_lines.specs.Words.{Reads, left};
+ghost use Rattle.script_lines.specs.Prelude.{Reads, SaysControl, SaysWant, left};
 
 use crate::channel::{self, Channel};
 use crate::keys::{self, Keys};

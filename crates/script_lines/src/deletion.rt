@@ -1,9 +1,7 @@
 //! Objects to delete (GlobalPlatform Card Specification 2.3.1, 11.2).
 
 ghost use Rattle.std.specs.Prelude.{◌≡◌};
-ghost use Rattle.script_lines.specs.Delete.{SaysDelete, deleting};
-ghost use Rattle.script_lines.specs.Words.{Reads, left};
-ghost use Rattle.script_lines.specs.Send.{plain_of};
+ghost use Rattle.script_lines.specs.Prelude.{Reads, SaysDelete, deleting, left, plain_of};
 
 use crate::plain::Plain;
 use crate::tokens::Tokens;

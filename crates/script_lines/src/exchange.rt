@@ -1,7 +1,6 @@
 //! The lines that send commands to the card (this profile's own).
 
-ghost use Rattle.script_lines.specs.Exchange.{SaysExchange};
-ghost use Rattle.script_lines.specs.Words.{Reads, left};
+ghost use Rattle.script_lines.specs.Prelude.{Reads, SaysExchange, left};
 
 use crate::deletion::{self, Deletion};
 use crate::extradition::{self, Extradition};

@@ -1,9 +1,7 @@
 //! Applications to extradite (GlobalPlatform Card Specification 2.3.1, 11.5).
 
 ghost use Rattle.std.specs.Prelude.{◌≡◌};
-ghost use Rattle.script_lines.specs.Extradite.{SaysExtradite, extraditing};
-ghost use Rattle.script_lines.specs.Words.{Reads, left};
-ghost use Rattle.script_lines.specs.Send.{plain_of};
+ghost use Rattle.script_lines.specs.Prelude.{Reads, SaysExtradite, extraditing, left, plain_of};
 
 use crate::install::install;
 use crate::plain::Plain;

@@ -1,11 +1,7 @@
 //! Applications to install (GlobalPlatform Card Specification 2.3.1, 11.5).
 
 ghost use Rattle.std.specs.Prelude.{◌≡◌, ◌≤◌, ℕ, List, length, flat_map};
-ghost use Rattle.tokens_receipts.specs.Receipt.{with_length};
-ghost use Rattle.script_lines.specs.Install.{SaysInstall, SpellsParameters, SpellsPrivileges, install_p1, installing};
-ghost use Rattle.script_lines.specs.Words.{Reads, SpellsByte, left};
-ghost use Rattle.script_lines.specs.Send.{plain_of};
-ghost use Rattle.script_lines.specs.Tokens.{install_command};
+ghost use Rattle.script_lines.specs.Prelude.{Reads, SaysInstall, SpellsByte, SpellsParameters, SpellsPrivileges, install_command, install_p1, installing, left, plain_of, with_length};
 
 use crate::plain::Plain;
 use crate::tokens::Tokens;

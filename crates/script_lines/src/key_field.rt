@@ -1,9 +1,7 @@
 //! The field of a key in PUT KEY (GlobalPlatform Card Specification 2.3.1, 11.8; Amendment D, 7.2).
 
 ghost use Rattle.std.specs.Prelude.{◌≡◌, ◌≤◌, ◌+◌, ◌-◌, ◌++◌, length, replicate};
-ghost use Rattle.arrayvec.specs.ArrayVec.{array_vec_len};
-ghost use Rattle.policy_machine.specs.PutKey.{check_value, key_field, sealed_size};
-ghost use Rattle.script_lines.specs.PutKey.{sent_under};
+ghost use Rattle.script_lines.specs.Prelude.{array_vec_len, check_value, key_field, sealed_size, sent_under};
 
 use aes_block::BlockKey;
 use arrayvec::ArrayVec;

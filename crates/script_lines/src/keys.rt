@@ -1,7 +1,6 @@
 //! Keys of AES (this profile's own).
 
-ghost use Rattle.script_lines.specs.Keys.{SpellKeys, SpellTrio, SpellsKey};
-ghost use Rattle.script_lines.specs.Words.{Reads, left};
+ghost use Rattle.script_lines.specs.Prelude.{Reads, SpellKeys, SpellTrio, SpellsKey, left};
 
 use crate::values::array;
 use crate::words::Words;

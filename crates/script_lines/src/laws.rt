@@ -1,6 +1,5 @@
 //! The laws of lines, as functions that do nothing when they run (this profile's own).
-ghost use Rattle.script_lines.specs.Line.{OneLine};
-ghost use Rattle.script_lines.specs.Workload.{WorkloadLines};
+ghost use Rattle.script_lines.specs.Prelude.{OneLine, WorkloadLines};
 
 /// A text says at most one line.
 pub fn one_line()

@@ -1,9 +1,7 @@
 //! Changes of a life cycle state (GlobalPlatform Card Specification 2.3.1, 11.10).
 
 ghost use Rattle.std.specs.Prelude.{◌≡◌};
-ghost use Rattle.script_lines.specs.Life.{MayName, SaysLife, changing_life};
-ghost use Rattle.script_lines.specs.Words.{Reads, left};
-ghost use Rattle.script_lines.specs.Send.{plain_of};
+ghost use Rattle.script_lines.specs.Prelude.{MayName, Reads, SaysLife, changing_life, left, plain_of};
 
 use crate::plain::Plain;
 use crate::values::{aid, byte};

@@ -1,9 +1,7 @@
 //! What a line says (this profile's own).
 
 ghost use Rattle.std.specs.Prelude.{◌≡◌, IfNone, IfSome};
-ghost use Rattle.script_lines.specs.Line.{HasNoForm, SaysLine, SaysSending};
-ghost use Rattle.script_lines.specs.Quiet.{is_quiet};
-ghost use Rattle.script_lines.specs.Words.{Reads, left};
+ghost use Rattle.script_lines.specs.Prelude.{HasNoForm, Reads, SaysLine, SaysSending, is_quiet, left};
 
 use crate::control::{self, Control};
 use crate::exchange::{self, Exchange};

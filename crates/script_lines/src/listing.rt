@@ -1,9 +1,7 @@
 //! Lists of objects (GlobalPlatform Card Specification 2.3.1, 11.4).
 
 ghost use Rattle.std.specs.Prelude.{◌≡◌};
-ghost use Rattle.script_lines.specs.Listing.{MayBegin, SaysListing, listing_command};
-ghost use Rattle.script_lines.specs.Words.{Reads, left};
-ghost use Rattle.script_lines.specs.Send.{plain_of};
+ghost use Rattle.script_lines.specs.Prelude.{MayBegin, Reads, SaysListing, left, listing_command, plain_of};
 
 use crate::plain::Plain;
 use crate::values::{byte, bytes};

@@ -1,11 +1,7 @@
 //! Executable Load Files to load (GlobalPlatform Card Specification 2.3.1, 11.6).
 
 ghost use Rattle.std.specs.Prelude.{◌≡◌, ◌≤◌, [], ◌∷◌, drop, length, take};
-ghost use Rattle.script_lines.specs.Life.{aid_or_none};
-ghost use Rattle.script_lines.specs.Load.{SaysContent, SaysLoad, SpellsDomain, beginning_load, block_element, content_bytes, hash_of, hash_word, length_field};
-ghost use Rattle.script_lines.specs.Words.{Reads, left};
-ghost use Rattle.script_lines.specs.Send.{plain_of};
-ghost use Rattle.script_lines.specs.Tokens.{install_command};
+ghost use Rattle.script_lines.specs.Prelude.{Reads, SaysContent, SaysLoad, SpellsDomain, aid_or_none, beginning_load, block_element, content_bytes, hash_of, hash_word, install_command, left, length_field, plain_of};
 
 use crate::block::tag_and_length;
 use crate::content::{Piece, part};

@@ -1,8 +1,7 @@
 //! Decimal numbers (this profile's own).
 
 ghost use Rattle.std.specs.Prelude.{◌≡◌, ◌<◌, ◌≤◌, ◌^◌, ◌↔◌, ℕ, IfSome, IsTrue, decimal, Some};
-ghost use Rattle.script_lines.specs.Load.{SpellsCount};
-ghost use Rattle.script_lines.specs.Words.{Reads};
+ghost use Rattle.script_lines.specs.Prelude.{Reads, SpellsCount};
 
 use itoa::Buffer;
 use std::str;

@@ -1,7 +1,6 @@
 //! Sessions to open (GlobalPlatform Amendment D, 7.1.1, 7.1.2).
 
-ghost use Rattle.script_lines.specs.Open.{SaysOpen};
-ghost use Rattle.script_lines.specs.Words.{Reads, left};
+ghost use Rattle.script_lines.specs.Prelude.{Reads, SaysOpen, left};
 
 use crate::values::{array, byte, level};
 use crate::words::Words;

@@ -1,9 +1,7 @@
 //! Commands to send in a session (GlobalPlatform Amendment D, 6.2).
 
 ghost use Rattle.std.specs.Prelude.{◌≡◌, ◌↔◌, IsTrue};
-ghost use Rattle.apdu_core.specs.Apdu.{apdu_of};
-ghost use Rattle.script_lines.specs.Words.{Reads, left};
-ghost use Rattle.script_lines.specs.Send.{IsPlain, SaysSend, SpellsPlain, plain_of};
+ghost use Rattle.script_lines.specs.Prelude.{IsPlain, Reads, SaysSend, SpellsPlain, apdu_of, left, plain_of};
 
 use crate::values::bytes;
 use crate::words::Words;

@@ -2,10 +2,7 @@
 
 ghost use Rattle.std.specs.Prelude.{◌≡◌, ◌∷◌};
 ghost use Rattle.std.specs.List.{flat_map};
-ghost use Rattle.policy_machine.specs.PutKey.{key_field};
-ghost use Rattle.script_lines.specs.PutKey.{SaysPutKey, SpellNewKeys, SpellOne, SpellSized, keys_of, put_key_p2, putting_keys, sent_under};
-ghost use Rattle.script_lines.specs.Words.{Reads, left};
-ghost use Rattle.script_lines.specs.Send.{plain_of};
+ghost use Rattle.script_lines.specs.Prelude.{Reads, SaysPutKey, SpellNewKeys, SpellOne, SpellSized, key_field, keys_of, left, plain_of, put_key_p2, putting_keys, sent_under};
 
 use crate::key_field::push_key_field;
 use crate::keys::{OfSize, Trio, three_keys};

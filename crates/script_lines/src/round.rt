@@ -3,8 +3,7 @@
 ghost use Rattle.std.specs.Prelude.{◌≡◌, ◌+◌, ◌<◌, ◌≤◌, ◌++◌, [], decimal, codes, slice_get};
 ghost use Rattle.std.specs.Int.{to_be_bytes};
 ghost use Rattle.std.specs.Option.{option_map};
-ghost use Rattle.arrayvec.specs.ArrayVec.{array_vec_len};
-ghost use Rattle.script_lines.specs.Round.{application_of, challenge_of, digits_of, file_of, lines_of};
+ghost use Rattle.script_lines.specs.Prelude.{application_of, array_vec_len, challenge_of, digits_of, file_of, lines_of};
 
 use arrayvec::ArrayVec;
 use itoa::Buffer;

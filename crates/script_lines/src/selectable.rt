@@ -1,9 +1,7 @@
 //! Applications to make selectable (GlobalPlatform Card Specification 2.3.1, 11.5).
 
 ghost use Rattle.std.specs.Prelude.{◌≡◌};
-ghost use Rattle.script_lines.specs.Words.{Reads, left};
-ghost use Rattle.script_lines.specs.Selectable.{SaysSelectable, making_selectable};
-ghost use Rattle.script_lines.specs.Send.{plain_of};
+ghost use Rattle.script_lines.specs.Prelude.{Reads, SaysSelectable, left, making_selectable, plain_of};
 
 use crate::install::install;
 use crate::plain::Plain;

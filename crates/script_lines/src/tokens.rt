@@ -2,9 +2,7 @@
 
 ghost use Rattle.std.specs.Prelude.{◌≡◌, ◌≤◌, codes, length};
 ghost use Rattle.tokens_receipts.specs.Token as approved;
-ghost use Rattle.script_lines.specs.Words.{Reads, left};
-ghost use Rattle.script_lines.specs.TokenKey.{SaysTokens, token_verb};
-ghost use Rattle.script_lines.specs.Tokens.{key_of, token_made};
+ghost use Rattle.script_lines.specs.Prelude.{Reads, SaysTokens, key_of, left, token_made, token_verb};
 
 use crate::keys::{Key, OfSize, key};
 use crate::words::Words;

@@ -1,8 +1,7 @@
 //! The first words of lines that send commands to the card (this profile's own).
 
 ghost use Rattle.std.specs.Prelude.{◌≡◌};
-ghost use Rattle.script_lines.specs.Words.{Reads};
-ghost use Rattle.script_lines.specs.Verb.{word_of};
+ghost use Rattle.script_lines.specs.Prelude.{Reads, word_of};
 
 /// The first word of a line that sends commands: it tells the form of the line.
 #[derive(Clone, Copy)]

@@ -43,3 +43,4 @@ pub use Rattle.script_lines.specs.Tokens
 pub use Rattle.script_lines.specs.Verb
 pub use Rattle.script_lines.specs.Words
 pub use Rattle.script_lines.specs.Workload
+pub mod Prelude

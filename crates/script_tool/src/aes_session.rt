@@ -1,13 +1,8 @@
 //! A session of the host, under keys of any length (GlobalPlatform Amendment D, 6.2).
 
 ghost use Rattle.std.specs.Prelude.{◌≡◌, ◌↔◌, ◌<◌, ◌≤◌, ℕ, List, length, IfOk, IsErr, OnOk, OnErr};
-ghost use Rattle.apdu_core.specs.Apdu.{Short, apdu_of};
-ghost use Rattle.scp03_card.specs.Kept.{RepresentsSession};
+ghost use Rattle.script_tool.specs.Prelude.{HasRightMac, IsTooShort, RepresentsSession, Short, Unwraps, apdu_of, having_sent, plain_of, putting_keys, room_for, wrapped};
 ghost use Rattle.scp03_card.specs.Session as model;
-ghost use Rattle.scp03_host.specs.Unwrapped.{HasRightMac, IsTooShort, Unwraps};
-ghost use Rattle.scp03_host.specs.Wrapped.{having_sent, room_for, wrapped};
-ghost use Rattle.script_lines.specs.PutKey.{putting_keys};
-ghost use Rattle.script_lines.specs.Send.{plain_of};
 
 use aes_block::{Aes128, Aes192, Aes256};
 use apdu_core::{Command, Status};

@@ -1,12 +1,7 @@
 //! The sessions of a host (GlobalPlatform Amendment D, chapter 5).
 
 ghost use Rattle.std.specs.Prelude.{◌≡◌, ◌↔◌, ◌<◌, ◌≤◌, None, Some, length, IfErr, IfOk, IsErr, OnErr, OnOk};
-ghost use Rattle.apdu_core.specs.Apdu.{Short, apdu_of};
-ghost use Rattle.scp03_card.specs.Session.{Session};
-ghost use Rattle.scp03_host.specs.Unwrapped.{Unwraps};
-ghost use Rattle.scp03_host.specs.Wrapped.{having_sent, room_for, wrapped};
-ghost use Rattle.script_lines.specs.Channel.{number_of};
-ghost use Rattle.script_tool.specs.Kept.{MayBeSession, RefusesAs, kept_on, no_kept, with_kept};
+ghost use Rattle.script_tool.specs.Prelude.{MayBeSession, RefusesAs, Session, Short, Unwraps, apdu_of, having_sent, kept_on, no_kept, number_of, room_for, with_kept, wrapped};
 ghost use Rattle.script_tool.specs.declared.word.Word.TheVariants.{NoSession, TooLong as TooLongWord};
 
 use crate::aes_session::AesSession;

@@ -1,21 +1,7 @@
 //! The commands that lines send in the session of the channel (GlobalPlatform Amendment D, 6.2).
 
 ghost use Rattle.std.specs.Prelude.{◌≡◌, true, false, OnOk};
-ghost use Rattle.apdu_core.specs.Apdu.{Apdu};
-ghost use Rattle.faults.specs.Faults.{HasCause};
-ghost use Rattle.script_lines.specs.Delete.{deleting};
-ghost use Rattle.script_lines.specs.Extradite.{extraditing};
-ghost use Rattle.script_lines.specs.Install.{installing};
-ghost use Rattle.script_lines.specs.Life.{changing_life};
-ghost use Rattle.script_lines.specs.Listing.{listing_command};
-ghost use Rattle.script_lines.specs.Selectable.{making_selectable};
-ghost use Rattle.script_lines.specs.Send.{plain_of};
-ghost use Rattle.script_lines.specs.Store.{storing};
-ghost use Rattle.script_tool.specs.Host.{Host};
-ghost use Rattle.script_tool.specs.InSession.{sending};
-ghost use Rattle.script_tool.specs.Kept.{RepresentsHost};
-ghost use Rattle.script_tool.specs.Play.{playing_put_key};
-ghost use Rattle.script_tool.specs.Played.{Plays};
+ghost use Rattle.script_tool.specs.Prelude.{Apdu, HasCause, Host, Plays, RepresentsHost, changing_life, deleting, extraditing, installing, listing_command, making_selectable, plain_of, playing_put_key, sending, storing};
 
 use crate::host_state::HostState;
 use crate::in_session::send;

@@ -1,7 +1,6 @@
 //! What a host has, between two lines (this profile's own).
 
-ghost use Rattle.script_tool.specs.Host.{Host, after_reset, first_host};
-ghost use Rattle.script_tool.specs.Kept.{RepresentsHost};
+ghost use Rattle.script_tool.specs.Prelude.{Host, RepresentsHost, after_reset, first_host};
 
 use crate::channel_sessions::ChannelSessions;
 use apdu_core::Status;

@@ -1,16 +1,7 @@
 //! Commands that are sent as they are (ISO/IEC 7816-4:2013, chapter 5).
 
 ghost use Rattle.std.specs.Prelude.{◌≡◌, ◌≤◌, ℕ, List, true, length, OnOk, None, MatchOption, if◌then◌else◌};
-ghost use Rattle.faults.specs.Faults.{HasCause};
-ghost use Rattle.script_lines.specs.Channel.{number_of};
-ghost use Rattle.script_lines.specs.Command.{spelled};
-ghost use Rattle.script_lines.specs.Select.{selecting};
-ghost use Rattle.script_tool.specs.Host.{Host, with_own};
-ghost use Rattle.script_tool.specs.InPlain.{has_selected, in_plain, playing_raw, playing_select};
-ghost use Rattle.script_tool.specs.Kept.{RepresentsHost, printed_of};
-ghost use Rattle.script_tool.specs.Played.{Continues, IsRead, Plays};
-ghost use Rattle.script_tool.specs.Printed.{status_printed};
-ghost use Rattle.script_tool.specs.Talk.{Talk};
+ghost use Rattle.script_tool.specs.Prelude.{Continues, HasCause, Host, IsRead, Plays, RepresentsHost, Talk, has_selected, in_plain, number_of, playing_raw, playing_select, printed_of, selecting, spelled, status_printed, with_own};
 ghost use Rattle.script_tool.specs.declared.host_state.HostState.{HostState};
 
 use crate::host_state::HostState;

@@ -1,13 +1,7 @@
 //! Commands in a session (GlobalPlatform Amendment D, 6.2).
 
 ghost use Rattle.std.specs.Prelude.{◌≡◌, ◌≤◌, Some, true, length, OnOk};
-ghost use Rattle.apdu_core.specs.Apdu.{apdu_of};
-ghost use Rattle.faults.specs.Faults.{HasCause};
-ghost use Rattle.scp03_card.specs.Session.{Session};
-ghost use Rattle.script_tool.specs.Host.{Host, with_own};
-ghost use Rattle.script_tool.specs.InSession.{Rest, awaiting, in_session, protecting, spoiled};
-ghost use Rattle.script_tool.specs.Kept.{RepresentsHost};
-ghost use Rattle.script_tool.specs.Played.{Continues};
+ghost use Rattle.script_tool.specs.Prelude.{Continues, HasCause, Host, RepresentsHost, Rest, Session, apdu_of, awaiting, in_session, protecting, spoiled, with_own};
 
 use crate::host_state::HostState;
 use crate::link::{CardLink, LinkFailed};

@@ -1,7 +1,5 @@
 //! The laws of a host, as functions that do nothing when they run (this profile's own).
-ghost use Rattle.script_tool.specs.Closed.{ClosedIsSilent, RefusalsEnd};
-ghost use Rattle.script_tool.specs.Count.{FewCommands};
-ghost use Rattle.script_tool.specs.Once.{OneTalk};
+ghost use Rattle.script_tool.specs.Prelude.{ClosedIsSilent, FewCommands, OneTalk, RefusalsEnd};
 
 /// From one state of the card a line comes to one end, by one list of commands.
 pub fn one_talk()

@@ -1,15 +1,8 @@
 //! Executable Load Files, loaded block by block (GlobalPlatform Card Specification 2.3.1, 11.5.2.3.1, 11.6).
 
 ghost use Rattle.std.specs.Prelude.{◌≡◌, ◌↔◌, ◌≤◌, Some, true, length, IsTrue, OnOk};
-ghost use Rattle.faults.specs.Faults.{HasCause};
+ghost use Rattle.script_tool.specs.Prelude.{ContinuesWith, HasCause, Host, Plays, RepresentsHost, Talk, content_bytes, loading_all, playing_load, printed_of, status_printed};
 ghost use Rattle.script_lines.specs.Load as standard;
-ghost use Rattle.script_lines.specs.Load.{content_bytes};
-ghost use Rattle.script_tool.specs.Host.{Host};
-ghost use Rattle.script_tool.specs.Kept.{RepresentsHost, printed_of};
-ghost use Rattle.script_tool.specs.Loading.{loading_all, playing_load};
-ghost use Rattle.script_tool.specs.Played.{ContinuesWith, Plays};
-ghost use Rattle.script_tool.specs.Printed.{status_printed};
-ghost use Rattle.script_tool.specs.Talk.{Talk};
 ghost use Rattle.script_tool.specs.declared.printout.TheConstants.{DONE};
 
 use crate::host_state::HostState;

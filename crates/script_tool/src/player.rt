@@ -1,14 +1,8 @@
 //! A host that plays the lines of a script (this profile's own).
 
 ghost use Rattle.std.specs.Prelude.{◌≡◌, ◌≤◌, ◌↔◌, ◌⊎◌, ℕ, true, OnOk};
-ghost use Rattle.faults.specs.Faults.{Rose};
-ghost use Rattle.script_lines.specs.Line.{HasNoForm, SaysLine};
+ghost use Rattle.script_tool.specs.Prelude.{HasNoForm, Host, RepresentsHost, Rose, SaysLine, StepPlays, first_host, printed_of, remembering, status_printed};
 ghost use Rattle.script_lines.specs.declared.line.ScriptLine.{ScriptLine};
-ghost use Rattle.script_tool.specs.Host.{Host, first_host};
-ghost use Rattle.script_tool.specs.Kept.{RepresentsHost, printed_of};
-ghost use Rattle.script_tool.specs.Play.{remembering};
-ghost use Rattle.script_tool.specs.Printed.{status_printed};
-ghost use Rattle.script_tool.specs.Step.{StepPlays};
 
 use crate::host_state::HostState;
 use crate::link::CardLink;

@@ -1,12 +1,7 @@
 //! What is done with a line that has a form (this profile's own).
 
 ghost use Rattle.std.specs.Prelude.{◌≡◌, ℕ, List, true, false, OnOk};
-ghost use Rattle.faults.specs.Faults.{HasCause};
-ghost use Rattle.script_lines.specs.Line.{SaysLine};
-ghost use Rattle.script_tool.specs.Host.{Host};
-ghost use Rattle.script_tool.specs.Kept.{RepresentsHost, printed_of};
-ghost use Rattle.script_tool.specs.Play.{FitsBlocks, playing, playing_control, playing_exchange, wanting};
-ghost use Rattle.script_tool.specs.Played.{IsPlayed, Plays};
+ghost use Rattle.script_tool.specs.Prelude.{FitsBlocks, HasCause, Host, IsPlayed, Plays, RepresentsHost, SaysLine, playing, playing_control, playing_exchange, printed_of, wanting};
 
 use crate::commands::{Listed, Selectable, put_key, send_made, send_one, store};
 use crate::host_state::HostState;

@@ -2,9 +2,7 @@
 
 ghost use Rattle.std.specs.Prelude.{◌≡◌, ◌+◌, ◌*◌, ◌++◌, ◌≤◌, codes, length};
 ghost use Rattle.std.specs.Option.{option_map};
-ghost use Rattle.hex.specs.Hex.{encode_lower};
-ghost use Rattle.script_tool.specs.Kept.{printed_of};
-ghost use Rattle.script_tool.specs.Printed.{kind_of, may_be_status, printed_text, status_digits, status_printed, unless_quiet};
+ghost use Rattle.script_tool.specs.Prelude.{encode_lower, kind_of, may_be_status, printed_of, printed_text, status_digits, status_printed, unless_quiet};
 
 use crate::played::Played;
 use crate::word::Word;

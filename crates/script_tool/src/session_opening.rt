@@ -1,19 +1,9 @@
 //! Sessions that are opened (GlobalPlatform Amendment D, 7.1.1, 7.1.2).
 
 ghost use Rattle.std.specs.Prelude.{◌≡◌, true, length, OnOk};
-ghost use Rattle.apdu_core.specs.Apdu.{Short};
-ghost use Rattle.faults.specs.Faults.{HasCause};
-ghost use Rattle.scp03_card.specs.Kept.{RepresentsSession};
-ghost use Rattle.scp03_card.specs.Offer.{Offer};
-ghost use Rattle.scp03_card.specs.Session.{answered};
-ghost use Rattle.script_lines.specs.Channel.{number_of};
+ghost use Rattle.script_tool.specs.Prelude.{HasCause, Host, Offer, Plays, RepresentsHost, RepresentsSession, Short, answered, authenticated, in_plain, number_of, playing_open, updating, with_field};
 ghost use Rattle.script_lines.specs.declared.opening.Opening.{Opening};
-ghost use Rattle.script_tool.specs.Host.{Host};
-ghost use Rattle.script_tool.specs.InPlain.{in_plain};
-ghost use Rattle.script_tool.specs.Kept.{RepresentsHost};
 ghost use Rattle.script_tool.specs.Opening as standard;
-ghost use Rattle.script_tool.specs.Opening.{authenticated, playing_open, updating, with_field};
-ghost use Rattle.script_tool.specs.Played.{Plays};
 
 use crate::aes_session::AesSession;
 use crate::host_state::HostState;

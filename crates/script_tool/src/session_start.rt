@@ -1,11 +1,7 @@
 //! How a session begins, under keys of any length (GlobalPlatform Amendment D, 7.1.1, 7.1.2).
 
 ghost use Rattle.std.specs.Prelude.{◌≡◌, ◌≢◌, ◌↔◌, ◌<◌, length, IfOk, OnOk, OnErr};
-ghost use Rattle.apdu_core.specs.Apdu.{Short};
-ghost use Rattle.scp03_card.specs.Kept.{RepresentsSession};
-ghost use Rattle.scp03_card.specs.Session.{answered};
-ghost use Rattle.scp03_host.specs.Begin.{IsOfCard, answer_to, offer_from_reply};
-ghost use Rattle.script_tool.specs.Opening.{offer_under};
+ghost use Rattle.script_tool.specs.Prelude.{IsOfCard, RepresentsSession, Short, answer_to, answered, offer_from_reply, offer_under};
 
 use crate::aes_session::AesSession;
 use aes_block::BlockKey;

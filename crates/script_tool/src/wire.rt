@@ -1,9 +1,7 @@
 //! The bytes that go to a card and come back (this profile's own).
 
 ghost use Rattle.std.specs.Prelude.{◌≡◌, [], ◌∷◌, true, OnOk, OnErr};
-ghost use Rattle.faults.specs.Faults.{HasCause};
-ghost use Rattle.script_tool.specs.Link.{Breaks, Conveys};
-ghost use Rattle.script_tool.specs.Talk.{Answered};
+ghost use Rattle.script_tool.specs.Prelude.{Answered, Breaks, Conveys, HasCause};
 
 use crate::link::{CardLink, LinkFailed};
 use arrayvec::ArrayVec;

@@ -1,8 +1,7 @@
 //! What is said where there is no reply to print (this profile's own).
 
 ghost use Rattle.std.specs.Prelude.{◌≡◌};
-ghost use Rattle.script_tool.specs.InSession.{refusal_word};
-ghost use Rattle.script_tool.specs.Printed.{word_text};
+ghost use Rattle.script_tool.specs.Prelude.{refusal_word, word_text};
 
 use scp03_host::ReplyRefusal;
 

@@ -2,13 +2,8 @@
 
 ghost use Rattle.std.specs.Prelude.{◌≡◌, ◌≤◌};
 ghost use Rattle.std.specs.List.{flat_map};
-ghost use Rattle.card_types.proofs.KeyNames.{counter_order_total};
-ghost use Rattle.card_types.specs.Registry.{counter_order, Counter};
-ghost use Rattle.card_types.specs.Represents.{IsInOrder, counter_of, keeps_counter};
+ghost use Rattle.gp_tool.specs.Prelude.{Counter, HasCause, IsInOrder, WritesOf, counter_line, counter_of, counter_order, counter_order_total, keeps_counter};
 ghost use Rattle.card_types.specs.declared.limits.TheConstants.{COUNTER_LIMIT};
-ghost use Rattle.faults.specs.Faults.{HasCause};
-ghost use Rattle.gp_tool.specs.Listing.{WritesOf};
-ghost use Rattle.gp_tool.specs.Show.{counter_line};
 
 use crate::show::line::LINE_ROOM;
 use crate::show::listing::{Listing, TextListing, write_lines};

@@ -4,13 +4,8 @@ ghost use Rattle.std.specs.Prelude.{◌≡◌, ◌≤◌, ◌++◌, [], true};
 ghost use Rattle.std.specs.List.{flat_map};
 ghost use Rattle.std.specs.Ordering.{on};
 ghost use Rattle.std.proofs.lemmas.Cmp.{nat_list_cmp_total, on_total};
-ghost use Rattle.arrayvec.specs.ArrayVec.{array_vec_len};
-ghost use Rattle.card_types.specs.Aid.{aid_order};
-ghost use Rattle.card_types.specs.Represents.{IsInOrder, entry_of};
+ghost use Rattle.gp_tool.specs.Prelude.{HasCause, IsInOrder, WritesOf, aid_order, array_vec_len, entry_kind, entry_line, entry_names, entry_of, entry_state};
 ghost use Rattle.card_types.specs.Registry.{Entry as NamedEntry};
-ghost use Rattle.faults.specs.Faults.{HasCause};
-ghost use Rattle.gp_tool.specs.Listing.{WritesOf};
-ghost use Rattle.gp_tool.specs.Show.{entry_kind, entry_line, entry_names, entry_state};
 
 use crate::show::line::LINE_ROOM;
 use crate::show::listing::{Listing, TextListing, write_lines};

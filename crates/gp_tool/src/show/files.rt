@@ -3,17 +3,8 @@
 ghost use Rattle.std.specs.Prelude.{◌≡◌, ◌≤◌, ◌++◌, ℕ, List, [], ◌∷◌, Some, true, length, OnOk, IfErr, IfSome, IfNone};
 ghost use Rattle.std.specs.List.{flat_map};
 ghost use Rattle.std.proofs.lemmas.Cmp.{nat_list_cmp_total};
-ghost use Rattle.card_core.specs.Card.{CardRepresents};
-ghost use Rattle.arrayvec.specs.ArrayVec.{array_vec_len};
-ghost use Rattle.card_types.specs.Aid.{aid_order};
-ghost use Rattle.card_types.specs.Search.{IsLeast, NoneFits};
-ghost use Rattle.card_types.specs.Represents.{domain_aid, file_of, held};
-ghost use Rattle.page_journal.specs.Moments.{LeavesOnly};
-ghost use Rattle.policy_machine.specs.State.{State};
-ghost use Rattle.rec_store.specs.Reopens.{Reopens, load_page};
+ghost use Rattle.gp_tool.specs.Prelude.{CardRepresents, IsLeast, LeavesOnly, NoneFits, Reopens, ShowCause, State, Writes, aid_order, array_vec_len, domain_aid, file_content, file_line, file_names, file_of, held, is_next_file, load_page};
 ghost use Rattle.gp_tool.specs.declared.show.fault.ShowFault.TheVariants.{Write};
-ghost use Rattle.gp_tool.specs.Listing.{Writes, is_next_file};
-ghost use Rattle.gp_tool.specs.Show.{ShowCause, file_content, file_line, file_names};
 
 use crate::show::fault::ShowFault;
 use crate::show::line::LINE_ROOM;

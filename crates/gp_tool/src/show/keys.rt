@@ -2,12 +2,7 @@
 
 ghost use Rattle.std.specs.Prelude.{◌≡◌, true};
 ghost use Rattle.std.specs.List.{flat_map};
-ghost use Rattle.card_types.proofs.KeyNames.{key_order_total};
-ghost use Rattle.card_types.specs.Registry.{key_order, Key};
-ghost use Rattle.card_types.specs.Represents.{IsInOrder, key_of};
-ghost use Rattle.faults.specs.Faults.{HasCause};
-ghost use Rattle.gp_tool.specs.Listing.{WritesOf};
-ghost use Rattle.gp_tool.specs.Show.{key_line};
+ghost use Rattle.gp_tool.specs.Prelude.{HasCause, IsInOrder, Key, WritesOf, key_line, key_of, key_order, key_order_total};
 
 use crate::show::line::LINE_ROOM;
 use crate::show::listing::{Listing, TextListing, write_lines};

@@ -5,10 +5,7 @@ ghost use Rattle.std.specs.Cmp.{IsTotalOrder};
 ghost use Rattle.std.specs.Ordering.{is_lt};
 ghost use Rattle.std.specs.declared.cmp.Ordering.{Ordering};
 ghost use Rattle.std.proofs.lemmas.Cmp.{on_total};
-ghost use Rattle.card_types.specs.Search.{NoneFits, IsLeastFound};
-ghost use Rattle.card_types.specs.Represents.{held};
-ghost use Rattle.faults.specs.Faults.{HasCause};
-ghost use Rattle.gp_tool.specs.Listing.{ForText, Writes, comes_past};
+ghost use Rattle.gp_tool.specs.Prelude.{ForText, HasCause, IsLeastFound, NoneFits, Writes, comes_past, held};
 
 use crate::show::line::LINE_ROOM;
 use arrayvec::ArrayVec;

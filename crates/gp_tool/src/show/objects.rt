@@ -2,12 +2,8 @@
 
 ghost use Rattle.std.specs.Prelude.{◌≡◌, true};
 ghost use Rattle.std.specs.List.{flat_map};
-ghost use Rattle.card_types.proofs.ObjectNames.{object_order_total};
-ghost use Rattle.card_types.specs.Registry.{object_order, Object as NamedObject};
-ghost use Rattle.card_types.specs.Represents.{IsInOrder, object_of};
-ghost use Rattle.faults.specs.Faults.{HasCause};
-ghost use Rattle.gp_tool.specs.Listing.{WritesOf};
-ghost use Rattle.gp_tool.specs.Show.{object_line};
+ghost use Rattle.gp_tool.specs.Prelude.{HasCause, IsInOrder, WritesOf, object_line, object_of, object_order, object_order_total};
+ghost use Rattle.card_types.specs.Registry.{Object as NamedObject};
 
 use crate::show::line::LINE_ROOM;
 use crate::show::listing::{Listing, TextListing, write_lines};

@@ -1,8 +1,7 @@
 //! AIDs by the slots that have them.
 
 ghost use Rattle.std.specs.Prelude.{◌≡◌, ◌≤◌, length};
-ghost use Rattle.card_types.specs.Aid.{aid_order};
-ghost use Rattle.card_types.specs.Represents.{domain_aid, file_aid};
+ghost use Rattle.gp_tool.specs.Prelude.{aid_order, domain_aid, file_aid};
 
 use card_types::{Entry, LoadFile, in_slot};
 use std::cmp::Ordering;
