@@ -34,7 +34,7 @@ CALLS = [
 CALLS += [(path.parts[-3], "laws.rt", "pub fn ") for path in sorted(CRATES.glob("*/src/laws.rt"))]
 
 WORD = re.compile(r"[^\W\d][\w'-]*(?:\.[A-Za-z_][\w']*)*")
-USE = re.compile(r"(?:ghost )?use Rattle\.(\w+)\.specs\.([\w.]+?)(?:\.\{([^}]*)\})?(?: as (\w+))?;?$")
+USE = re.compile(r"(?:ghost |pub )?use Rattle\.(\w+)\.specs\.([\w.]+?)(?:\.\{([^}]*)\})?(?: as (\w+))?;?$")
 # At the beginning of a line, or within a module: there a bare `pub` is a field of a record.
 DEFINITION = re.compile(r"(?:(?:abbrev |unfoldable )?pub (?:record |data )?|  (?:abbrev |unfoldable )pub |  pub (?:record|data) )([^\s:({]+)")
 
@@ -82,7 +82,8 @@ class Specs:
 
 
 def all_specs():
-    return {(path.parts[-3], path.stem): Specs(path) for path in sorted(CRATES.glob("*/specs/*.antt")) if path.stem != "Lib"}
+    paths = sorted(CRATES.glob("*/specs/*.antt"))
+    return {(path.parts[-3], path.stem): Specs(path) for path in paths if path.stem not in ("Lib", "Prelude")}
 
 
 def passed_on():
@@ -92,6 +93,11 @@ def passed_on():
         for path in CRATES.glob("*/specs/Lib.antt")
         for crate, module in re.findall(r"(?m)^pub use Rattle\.(\w+)\.specs\.(\w+)$", path.read_text())
     }
+
+
+def preludes():
+    """Where each name stands that a crate's Prelude passes on."""
+    return {path.parts[-3]: imports(path.read_text().split("\n")) for path in CRATES.glob("*/specs/Prelude.antt")}
 
 
 def clauses(crate, file, begin):
@@ -105,9 +111,11 @@ def clauses(crate, file, begin):
 
 def reached(specs, words, uses):
     """The definitions that these words lead to."""
-    seen, left, stands = set(), [], passed_on()
+    seen, left, stands, gathered = set(), [], passed_on(), preludes()
 
     def push(crate, module, name):
+        if module == "Prelude":
+            crate, module, name = gathered.get(crate, {}).get(name, (crate, module, name))
         crate, module = stands.get((crate, module), (crate, module))
         file = specs.get((crate, module))
         name = file and (name if name in file.first else file.owner.get(name))
