@@ -2,10 +2,8 @@
 use Rattle.std.proofs.Common.{ℕ, ◌≤◌, List, length}
 use Rattle.std.specs.Prelude.{All}
 use Rattle.std.proofs.lemmas.List.Elements.{All-weaker}
-use Rattle.card_types.specs.Registry.{Counter, Entry, Key, LoadFile, Object, Registry}
-use Rattle.card_types.specs.Well.{IsWellCounter, IsWellEntry, IsWellFile, IsWellKey, IsWellObject, IsWholeSet, Well}
+use Rattle.policy_machine.specs.Prelude.{Counter, Entry, IsWellCounter, IsWellEntry, IsWellFile, IsWellKey, IsWellObject, IsWholeSet, Key, LoadFile, Object, Registry, Well, with_data}
 use Rattle.card_types.specs.declared.limits.TheConstants.{OBJECTS}
-use Rattle.policy_machine.specs.DataObjects.{with_data}
 
 module _ (registry : Registry) (objects : List Object) where
   -- what is so of other things says nothing of the data objects

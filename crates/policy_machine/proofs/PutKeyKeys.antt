@@ -8,11 +8,8 @@ use Rattle.std.proofs.lemmas.List.Sorted.{Contains-permutation, IsPermutation-sy
 use Rattle.card_types.proofs.Members.{contains_filter, filtered}
 use Rattle.card_types.proofs.SameAid.{same_aid_decides}
 use Rattle.card_types.proofs.SetMembers.{HasCounterOf, HasKeyNamed, whole_still}
-use Rattle.card_types.specs.Aid.{same_aid}
-use Rattle.card_types.specs.Registry.{Counter, Entry, Key, LoadFile, Object, Registry, keys_of}
-use Rattle.card_types.specs.Well.{HasLengthOfSet, IsWellCounter, IsWellEntry, IsWellFile, IsWellKey, IsWellObject, IsWholeSet, Well}
+use Rattle.policy_machine.specs.Prelude.{Counter, Entry, HasLengthOfSet, IsWellCounter, IsWellEntry, IsWellFile, IsWellKey, IsWellObject, IsWholeSet, Key, LoadFile, Object, Registry, Well, counters_but, is_counter_numbered, is_key_numbered, keys_but, keys_of, same_aid, with_keys}
 use Rattle.card_types.specs.declared.limits.TheConstants.{DOMAIN_KEYS, KEYS}
-use Rattle.policy_machine.specs.KeySets.{counters_but, is_counter_numbered, is_key_numbered, keys_but, with_keys}
 use Rattle.policy_machine.proofs.Filtered.{as_many_pass, fewer_pass, most_pass, none_pass}
 
 -- things that are put in the place of those that go
