@@ -3,8 +3,4 @@ use Rattle.card_types.proofs.RemovedThing.{entry_removed_keeps, file_removed_kee
 use Rattle.card_types.proofs.laws.removals_keep_order.Goals as goal
 
 pub returns : goal.returns
-returns c = record {
-  entry = entry_removed_keeps;
-  applications = applications_removed_keep;
-  file = file_removed_keeps;
-}
+returns c = record { entry = entry_removed_keeps; applications = applications_removed_keep; file = file_removed_keeps }

@@ -3,9 +3,4 @@ use Rattle.domain_tree.proofs.AboveBelow.{above_below_moved}
 use Rattle.domain_tree.proofs.laws.above_moved.Goals as goal
 
 pub returns : goal.returns
-returns c = record {
-  thing = above_moved;
-  root = none_above_root;
-  others = above_others_of_moved;
-  below = above_below_moved;
-}
+returns c = record { thing = above_moved; root = none_above_root; others = above_others_of_moved; below = above_below_moved }

@@ -2,10 +2,4 @@ use Rattle.domain_tree.proofs.DomainsStay.{domains_after_applications, domains_a
 use Rattle.domain_tree.proofs.laws.domains_stay.Goals as goal
 
 pub returns : goal.returns
-returns c = record {
-  added = domains_after_entry_added;
-  changed = domains_after_change;
-  moved = domains_after_move;
-  removed = domains_after_entry;
-  applications = domains_after_applications;
-}
+returns c = record { added = domains_after_entry_added; changed = domains_after_change; moved = domains_after_move; removed = domains_after_entry; applications = domains_after_applications }

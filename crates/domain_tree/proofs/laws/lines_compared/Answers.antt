@@ -3,10 +3,4 @@ use Rattle.domain_tree.proofs.FirstFound.{first_above_decided}
 use Rattle.domain_tree.proofs.laws.lines_compared.Goals as goal
 
 pub returns : goal.returns
-returns c = record {
-  one_above = above_compared;
-  further = above_further;
-  not_both = not_above_each_other;
-  decided = above_decided;
-  first = first_above_decided;
-}
+returns c = record { one_above = above_compared; further = above_further; not_both = not_above_each_other; decided = above_decided; first = first_above_decided }
