@@ -17,13 +17,8 @@ module _ (registry : Registry) (objects : List Object) where
   set_stays owner version whole = record { first = whole.first; second = whole.second; third = whole.third; counter = whole.counter }
 
   key_stays : (key : Key) → IsWellKey registry key → IsWellKey (with_data registry objects) key
-  key_stays key well = record {
-    owner = well.owner;
-    size = well.size;
-    size_of_set = well.size_of_set;
-    name = well.name;
-    whole = λ low. set_stays key.owner key.version (well.whole low);
-  }
+  key_stays key well =
+      record { owner = well.owner; size = well.size; size_of_set = well.size_of_set; name = well.name; whole = λ low. set_stays key.owner key.version (well.whole low) }
 
   counter_stays : (counter : Counter) → IsWellCounter registry counter → IsWellCounter (with_data registry objects) counter
   counter_stays counter well = record { set = set_stays counter.owner counter.version well.set; version = well.version; number = well.number }

@@ -108,12 +108,7 @@ module _ (admitted : Admitted) (asked : DeletionAsked) (parameters : DeleteParam
       }
 
 pub deletion_judgeable : IsJudgeable managed_delete_object.judged
-deletion_judgeable = record {
-  one_asked = λ p1 p2 body a b one other. one_deletion a b body one other;
-  own = λ rule. tt;
-  one_rule = λ a b same. cc;
-  approving = delegation_asked;
-}
+deletion_judgeable = record { one_asked = λ p1 p2 body a b one other. one_deletion a b body one other; own = λ rule. tt; one_rule = λ a b same. cc; approving = delegation_asked }
 
 -- the registry without what is to go is one that a card may have
 pub deleted_of_card : (admitted : Admitted) (asked : DeletionAsked) → AsksToDelete admitted.command.body asked

@@ -36,12 +36,7 @@ module _ (admitted : Admitted) (given : InstallData) (known : ExtraditingFails a
   }
 
 pub extradition_judgeable : IsJudgeable managed_extradition.judged
-extradition_judgeable = record {
-  one_asked = λ p1 p2 body a b one other. one_data a b body one.fields other.fields;
-  own = λ rule. tt;
-  one_rule = λ a b same. cc;
-  approving = delegation_asked;
-}
+extradition_judgeable = record { one_asked = λ p1 p2 body a b one other. one_data a b body one.fields other.fields; own = λ rule. tt; one_rule = λ a b same. cc; approving = delegation_asked }
 
 -- its own rules leave the thing in its new domain
 module _ (admitted : Admitted) (given : InstallData) (of : IsOfCard admitted.at.registry) (own : OwnPass managed_extradition.judged admitted given) where

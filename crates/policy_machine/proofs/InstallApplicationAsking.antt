@@ -68,9 +68,4 @@ one_asked a b body one other =
     (λ i. record { given = given i; privileges = privileges i })
 
 pub install_judgeable : IsJudgeable managed_install.judged
-install_judgeable = record {
-  one_asked = λ p1 p2 body a b one other. one_asked a b body one other;
-  own = λ rule. tt;
-  one_rule = λ a b same. cc;
-  approving = delegation_asked;
-}
+install_judgeable = record { one_asked = λ p1 p2 body a b one other. one_asked a b body one other; own = λ rule. tt; one_rule = λ a b same. cc; approving = delegation_asked }

@@ -38,12 +38,7 @@ domain_given registry (byte ∷ bytes) other domain passes =
     domain_stable (entry_named registry (byte ∷ bytes)) (λ none. passes ((λ same. cc), none))
 
 pub load_install_judgeable : IsJudgeable judged_install_load
-load_install_judgeable = record {
-  one_asked = λ p1 p2 body a b one other. one_load_data a b body one.fields other.fields;
-  own = λ rule. tt;
-  one_rule = λ a b same. cc;
-  approving = (tt, (tt, (tt, tt)));
-}
+load_install_judgeable = record { one_asked = λ p1 p2 body a b one other. one_load_data a b body one.fields other.fields; own = λ rule. tt; one_rule = λ a b same. cc; approving = (tt, (tt, (tt, tt))) }
 
 -- the load session that begins goes with the registry
 begun_well : (admitted : Admitted) (given : LoadData) → IsAid given.file → IsReady admitted → admitted.command.ins ≡ install_load.instruction

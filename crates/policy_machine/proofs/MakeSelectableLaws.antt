@@ -36,12 +36,7 @@ module _ (admitted : Admitted) (given : InstallData) (well : Well admitted.at.re
       any (Some entry) = refl
 
 pub selectable_judgeable : IsJudgeable managed_selectable.judged
-selectable_judgeable = record {
-  one_asked = λ p1 p2 body a b one other. one_data a b body one.fields other.fields;
-  own = λ rule. tt;
-  one_rule = λ a b same. cc;
-  approving = delegation_asked;
-}
+selectable_judgeable = record { one_asked = λ p1 p2 body a b one other. one_data a b body one.fields other.fields; own = λ rule. tt; one_rule = λ a b same. cc; approving = delegation_asked }
 
 -- its own rules leave the application selectable
 module _ (admitted : Admitted) (given : InstallData) (of : IsOfCard admitted.at.registry) (own : OwnPass managed_selectable.judged admitted given) where

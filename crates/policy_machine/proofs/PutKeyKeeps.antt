@@ -180,13 +180,8 @@ module _ (registry : Registry) (well : Well registry) (owner : List ℕ) (domain
       (omega (arith, length_keys_from owner version 1 new)) (omega (arith, length_keys_from owner version 1 new))
 
   pub new_keys_ascending : IsAscending registry → IsAscending after
-  new_keys_ascending ascending = record {
-    entries = ascending.entries;
-    files = ascending.files;
-    keys = keys_put.ascending;
-    counters = counters_put.ascending;
-    objects = ascending.objects;
-  }
+  new_keys_ascending ascending =
+      record { entries = ascending.entries; files = ascending.files; keys = keys_put.ascending; counters = counters_put.ascending; objects = ascending.objects }
 
 -- the keys that are sent have the length that is said, and are as many
 sizes_sent : (dek : List ℕ) (size : ℕ) (sent : List SentKey) (keys : List (List ℕ)) → AreKeysSent dek sent keys → All (λ one. one.size ≡ size) sent

@@ -61,26 +61,21 @@ module _ (registry : Registry) (owner : List ℕ) (replaced : ℕ) (added : List
 
   -- a key set that is not the replaced one stays whole
   module _ (domain : List ℕ) (version : ℕ) (other : (same_aid domain owner && version == replaced) ≡ false) where
+    stays : (holder : List ℕ) (numbered : ℕ) → holder ≡ domain → numbered ≡ version → (same_aid holder owner && numbered == replaced) ≡ false
+    stays holder numbered owned versioned =
+        ap (λ (o : List ℕ). same_aid o owner && numbered == replaced) owned ∙ ap (λ (v : ℕ). same_aid domain owner && v == replaced) versioned ∙ other
+
     has_key_still : (identifier : ℕ) → HasKeyNamed registry domain version identifier → HasKeyNamed after domain version identifier
-    has_key_still identifier has = record {
-      key = has.key;
-      is_there = still_there (is_key_numbered owner replaced) registry.keys added keys keys_put has.key has.is_there
-          (ap (λ (o : List ℕ). same_aid o owner && has.key.version == replaced) has.owner_is
-          ∙ ap (λ (v : ℕ). same_aid domain owner && v == replaced) has.version_is ∙ other);
-      owner_is = has.owner_is;
-      version_is = has.version_is;
-      identifier_is = has.identifier_is;
-    }
+    has_key_still identifier has =
+        let there = still_there (is_key_numbered owner replaced) registry.keys added keys keys_put has.key has.is_there
+        (stays has.key.owner has.key.version has.owner_is has.version_is) in
+        record { key = has.key; is_there = there; owner_is = has.owner_is; version_is = has.version_is; identifier_is = has.identifier_is }
 
     has_counter_still : HasCounterOf registry domain version → HasCounterOf after domain version
-    has_counter_still has = record {
-      counter = has.counter;
-      is_there = still_there (is_counter_numbered owner replaced) registry.counters new_counters counters counters_put has.counter has.is_there
-          (ap (λ (o : List ℕ). same_aid o owner && has.counter.version == replaced) has.owner_is
-          ∙ ap (λ (v : ℕ). same_aid domain owner && v == replaced) has.version_is ∙ other);
-      owner_is = has.owner_is;
-      version_is = has.version_is;
-    }
+    has_counter_still has =
+        let there = still_there (is_counter_numbered owner replaced) registry.counters new_counters counters counters_put has.counter has.is_there
+        (stays has.counter.owner has.counter.version has.owner_is has.version_is) in
+        record { counter = has.counter; is_there = there; owner_is = has.owner_is; version_is = has.version_is }
 
     set_still : IsWholeSet registry domain version → IsWholeSet after domain version
     set_still set = whole_still registry after domain version has_key_still has_counter_still set

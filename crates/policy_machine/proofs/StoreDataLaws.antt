@@ -39,21 +39,11 @@ module _ (registry : Registry) (owner : List ℕ) (domain : IsDomainNamed regist
 
 pub data_ascending : (registry : Registry) (things objects : List Object) → IsAscending registry → IsArranged object_order things objects
     → IsAscending (with_data registry objects)
-data_ascending registry things objects ascending arranged = record {
-  entries = ascending.entries;
-  files = ascending.files;
-  keys = ascending.keys;
-  counters = ascending.counters;
-  objects = arranged.ascending;
-}
+data_ascending registry things objects ascending arranged =
+    record { entries = ascending.entries; files = ascending.files; keys = ascending.keys; counters = ascending.counters; objects = arranged.ascending }
 
 pub store_judgeable : IsJudgeable managed_store_data.judged
-store_judgeable = record {
-  one_asked = λ p1 p2 body a b one other. one_list a b body one.spelled other.spelled;
-  own = λ rule. tt;
-  one_rule = λ a b same. cc;
-  approving = tt;
-}
+store_judgeable = record { one_asked = λ p1 p2 body a b one other. one_list a b body one.spelled other.spelled; own = λ rule. tt; one_rule = λ a b same. cc; approving = tt }
 
 -- it changes data objects alone
 storing_keeps : KeepsCard managed_store_data
