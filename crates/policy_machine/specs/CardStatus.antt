@@ -1,6 +1,6 @@
 -- SET STATUS of the card (GlobalPlatform Card Specification 2.3.1, 5.1 and 11.10): the card goes to another life cycle state. Who may
 -- take which step is this profile's own.
-use Rattle.std.specs.Prelude.{◌≡◌, ◌≢◌, ◌⊎◌, ℕ, [], ◌∷◌}
+use Rattle.std.specs.Prelude.{◌≡◌, ◌≢◌, ◌⊎◌, ℕ, [], ◌∷◌, codes}
 use Rattle.card_types.specs.CardLife.{card_life_code}
 use Rattle.card_types.specs.RegistryChange.{with_card_life}
 use Rattle.card_types.specs.declared.card_life.CardLife.{CardLife}
@@ -9,6 +9,7 @@ use Rattle.card_types.specs.declared.factory.TheConstants.{ISSUER}
 use Rattle.policy_machine.specs.Admission.{Admitted}
 use Rattle.policy_machine.specs.Delegation.{Holds}
 use Rattle.policy_machine.specs.Management.{acting}
+use Rattle.policy_machine.specs.Refusal.{Refusal, refusal}
 use Rattle.policy_machine.specs.declared.card_status.RuleSC.{RuleSC}
 use Rattle.policy_machine.specs.declared.card_status.RuleSC.TheVariants.{SC1, SC2}
 use Rattle.policy_machine.specs.declared.rule.Rule.TheVariants.{SC}
@@ -42,6 +43,10 @@ IsTerminating code = code ≡ 0xFF
 -- the steps of a card's life cycle; what is sent again is none
 abbrev pub IsCardStep : CardLife → ℕ → Type 0
 IsCardStep life code = IsPreparing life code ⊎ IsLocking life code ⊎ IsTerminating code
+
+abbrev pub card_status_refusal : RuleSC → Refusal
+card_status_refusal SC1 = refusal (codes "SC1") 0x6985
+card_status_refusal SC2 = refusal (codes "SC2") 0x6982
 
 abbrev pub SettingCardFails : Admitted → RuleSC → Type 0
 -- there is no such step

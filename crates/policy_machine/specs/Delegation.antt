@@ -1,7 +1,7 @@
 -- Delegated management (GlobalPlatform Card Specification 2.3.1, 9.2 to 9.4): a command of a provider has a token, by which a domain
 -- above it approved the command, and is confirmed by a receipt. Which domain verifies and which one confirms, what a receipt
 -- covers and that its number rises within the command's own commit are this profile's own.
-use Rattle.std.specs.Prelude.{◌≡◌, ◌≢◌, ◌⊎◌, ℕ, ◌+◌, ◌++◌, List, [], ◌∷◌, Bool, Option, None, Some, MatchOption, is_some, length, ◌&&◌}
+use Rattle.std.specs.Prelude.{◌≡◌, ◌≢◌, ◌⊎◌, ℕ, ◌+◌, ◌++◌, List, [], ◌∷◌, Bool, Option, None, Some, MatchOption, codes, is_some, length, ◌&&◌}
 use Rattle.card_types.specs.Privileges.{authorized_management, delegated_management, receipt_generation, token_verification}
 use Rattle.card_types.specs.Registry.{Entry, Key, Object, Registry, domain_of, entry_named, key_named, object_named}
 use Rattle.card_types.specs.RegistryChange.{with_receipts}
@@ -14,6 +14,7 @@ use Rattle.policy_machine.specs.Admission.{Admitted}
 use Rattle.policy_machine.specs.Charge.{HoldsPrivilege, is_privileged}
 use Rattle.policy_machine.specs.Management.{acting}
 use Rattle.policy_machine.specs.State.{Effect}
+use Rattle.policy_machine.specs.Refusal.{Refusal, refusal}
 use Rattle.policy_machine.specs.declared.delegation.RuleRC.{RuleRC}
 use Rattle.policy_machine.specs.declared.delegation.RuleRC.TheVariants.{RC1}
 use Rattle.policy_machine.specs.declared.delegation.RuleTK.{RuleTK}
@@ -59,6 +60,14 @@ NoReceipter registry = NoHolder registry receipt_generation 0x71
 pub record Approval : Type 0 where
   pub before : List ℕ
   pub token : List ℕ
+
+abbrev pub token_refusal : RuleTK → Refusal
+token_refusal TK1 = refusal (codes "TK1") 0x6A80
+token_refusal TK2 = refusal (codes "TK2") 0x6982
+token_refusal TK3 = refusal (codes "TK3") 0x6982
+
+abbrev pub receipt_refusal : RuleRC → Refusal
+receipt_refusal RC1 = refusal (codes "RC1") 0x6985
 
 abbrev pub token_rules : List RuleTK
 token_rules = TK1 ∷ TK2 ∷ TK3 ∷ []

@@ -1,11 +1,12 @@
 -- DELETE of a key (GlobalPlatform Card Specification 2.3.1, 11.2): the keys of the selected domain with one key version number go.
-use Rattle.std.specs.Prelude.{◌≡◌, ◌≢◌, ◌⊎◌, ℕ, ◌<◌, List, [], ◌∷◌, Option, None, Some, MatchOption, false, find}
+use Rattle.std.specs.Prelude.{◌≡◌, ◌≢◌, ◌⊎◌, ℕ, ◌<◌, List, [], ◌∷◌, Option, None, Some, MatchOption, codes, false, find}
 use Rattle.card_types.specs.Aid.{same_aid}
 use Rattle.card_types.specs.Well.{IsRoot}
 use Rattle.policy_machine.specs.Admission.{Admitted}
 use Rattle.policy_machine.specs.Delegation.{unconfirmed}
 use Rattle.policy_machine.specs.KeySets.{counters_but, has_key_version, keys_but, with_keys}
 use Rattle.policy_machine.specs.Management.{acting}
+use Rattle.policy_machine.specs.Refusal.{Refusal, refusal}
 use Rattle.policy_machine.specs.declared.delete_key.RuleDK.{RuleDK}
 use Rattle.policy_machine.specs.declared.delete_key.RuleDK.TheVariants.{DK1, DK2}
 use Rattle.policy_machine.specs.declared.rule.Rule.TheVariants.{DK}
@@ -28,6 +29,10 @@ pub record KeyChosen : Type 0 where
 
 abbrev pub AsksToDeleteKey : List ℕ → KeyChosen → Type 0
 AsksToDeleteKey body chosen = Chooses body chosen.version chosen.identifier
+
+abbrev pub delete_key_refusal : RuleDK → Refusal
+delete_key_refusal DK1 = refusal (codes "DK1") 0x6A88
+delete_key_refusal DK2 = refusal (codes "DK2") 0x6985
 
 -- one key of a key set is not deleted without the others, and a token or receipt key has key identifier 01
 abbrev pub NamesPart : ℕ → Option ℕ → Type 0

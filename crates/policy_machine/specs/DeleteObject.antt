@@ -1,6 +1,6 @@
 -- DELETE of an application, a security domain or an Executable Load File (GlobalPlatform Card Specification 2.3.1, 9.5 and 11.2). Who may
 -- delete what, and the order of the rules, are this profile's own.
-use Rattle.std.specs.Prelude.{◌≡◌, ◌≢◌, ◌⊎◌, ℕ, ◌++◌, List, [], ◌∷◌, Contains, MatchOption, None}
+use Rattle.std.specs.Prelude.{◌≡◌, ◌≢◌, ◌⊎◌, ℕ, ◌++◌, List, [], ◌∷◌, Contains, MatchOption, None, codes}
 use Rattle.bertlv.specs.Spelling.{Spelling}
 use Rattle.card_types.specs.Aid.{IsAid}
 use Rattle.card_types.specs.Privileges.{delegated_management}
@@ -12,6 +12,7 @@ use Rattle.policy_machine.specs.Charge.{IsInCharge}
 use Rattle.policy_machine.specs.DeleteKey.{DeleteParameters}
 use Rattle.policy_machine.specs.Delegation.{Approval, Holds, MayManage, delegation_rules, unconfirmed}
 use Rattle.policy_machine.specs.Management.{acting}
+use Rattle.policy_machine.specs.Refusal.{Refusal, refusal}
 use Rattle.policy_machine.specs.State.{Volatile, channel_at}
 use Rattle.policy_machine.specs.declared.delete_object.RuleDO.{RuleDO}
 use Rattle.policy_machine.specs.declared.delete_object.RuleDO.TheVariants.{DO1, DO2, DO3, DO4}
@@ -68,6 +69,12 @@ HasOthers registry aid =
 -- it is in use
 abbrev pub IsInUse : Admitted → List ℕ → Type 0
 IsInUse admitted aid = IsSelected admitted.at.volatile aid ⊎ IsLoadedInto admitted.at.volatile aid ⊎ HasOthers admitted.at.registry aid
+
+abbrev pub delete_object_refusal : RuleDO → Refusal
+delete_object_refusal DO1 = refusal (codes "DO1") 0x6A88
+delete_object_refusal DO2 = refusal (codes "DO2") 0x6985
+delete_object_refusal DO3 = refusal (codes "DO3") 0x6982
+delete_object_refusal DO4 = refusal (codes "DO4") 0x6985
 
 abbrev pub DeletingFails : Admitted → DeletionAsked → RuleDO → Type 0
 -- nothing has the AID

@@ -1,6 +1,6 @@
 -- SET STATUS of an application or a security domain (GlobalPlatform Card Specification 2.3.1, 5.3 and 11.10): it is locked or unlocked,
 -- a domain also with all that is below it, or a domain is personalized. Who may do so is this profile's own.
-use Rattle.std.specs.Prelude.{◌≡◌, ◌⊎◌, ℕ, ◌<◌, ◌≤◌, List, [], ◌∷◌, Bool, true, false, MatchOption, None, Some}
+use Rattle.std.specs.Prelude.{◌≡◌, ◌⊎◌, ℕ, ◌<◌, ◌≤◌, List, [], ◌∷◌, Bool, true, false, MatchOption, None, Some, codes}
 use Rattle.card_types.specs.Aid.{IsAid}
 use Rattle.card_types.specs.Registry.{Entry, Registry, entry_named, is_domain}
 use Rattle.card_types.specs.RegistryChange.{with_life, with_locks}
@@ -13,6 +13,7 @@ use Rattle.policy_machine.specs.Admission.{Admitted}
 use Rattle.policy_machine.specs.Delegation.{Holds}
 use Rattle.policy_machine.specs.Extradition.{is_personalized}
 use Rattle.policy_machine.specs.Management.{acting}
+use Rattle.policy_machine.specs.Refusal.{Refusal, refusal}
 use Rattle.policy_machine.specs.declared.entry_status.RuleSS.{RuleSS}
 use Rattle.policy_machine.specs.declared.entry_status.RuleSS.TheVariants.{SS1, SS2, SS3, SS4}
 use Rattle.policy_machine.specs.declared.rule.Rule.TheVariants.{SS}
@@ -49,6 +50,12 @@ pub record IsPersonalizing (p1 p2 : ℕ) (entry : Entry) (life : LifeMark) : Typ
 -- the steps of an entry
 abbrev pub IsEntryStep : ℕ → ℕ → Entry → LifeMark → Type 0
 IsEntryStep p1 p2 entry life = IsMarked p2 entry life ⊎ IsPersonalizing p1 p2 entry life
+
+abbrev pub entry_status_refusal : RuleSS → Refusal
+entry_status_refusal SS1 = refusal (codes "SS1") 0x6A88
+entry_status_refusal SS2 = refusal (codes "SS2") 0x6985
+entry_status_refusal SS3 = refusal (codes "SS3") 0x6982
+entry_status_refusal SS4 = refusal (codes "SS4") 0x6985
 
 -- a domain that asks to be personalized itself
 pub record PersonalizesItself (admitted : Admitted) : Type 0 where

@@ -1,5 +1,5 @@
 -- EXTERNAL AUTHENTICATE (GlobalPlatform Amendment D, 7.1.2): the host answers an offer, and the session begins.
-use Rattle.std.specs.Prelude.{◌≡◌, ℕ, List, [], ◌∷◌, None, Some, length, if◌then◌else◌, ◌==◌}
+use Rattle.std.specs.Prelude.{◌≡◌, ℕ, List, [], ◌∷◌, None, Some, length, codes, if◌then◌else◌, ◌==◌}
 use Rattle.card_types.specs.Level.{code_of}
 use Rattle.card_types.specs.declared.level.Level.{Level}
 use Rattle.scp03_card.specs.Offer.{Offer}
@@ -7,6 +7,8 @@ use Rattle.scp03_card.specs.Session.{HasCryptogram, HasMac, answered}
 use Rattle.policy_machine.specs.Admission.{Admitted}
 use Rattle.policy_machine.specs.CommandForm.{CommandForm, unreceipted_form}
 use Rattle.policy_machine.specs.State.{Effect, Secured, offer_on, with_secure_channel}
+use Rattle.policy_machine.specs.Refusal.{Refusal, refusal}
+use Rattle.policy_machine.specs.declared.external_authenticate.RuleEA.{RuleEA}
 use Rattle.policy_machine.specs.declared.external_authenticate.RuleEA.TheVariants.{EA1, EA2, EA3}
 use Rattle.policy_machine.specs.declared.rule.Rule.{Rule}
 use Rattle.policy_machine.specs.declared.rule.Rule.TheVariants.{EA}
@@ -18,6 +20,11 @@ ExternalAuthenticateParameters p1 p2 = ((level : Level) × (code_of level ≡ p1
 -- the host cryptogram and the C-MAC
 abbrev pub ExternalAuthenticateField : List ℕ → Type 0
 ExternalAuthenticateField body = length body ≡ 16
+
+abbrev pub external_authenticate_refusal : RuleEA → Refusal
+external_authenticate_refusal EA1 = refusal (codes "EA1") 0x6985
+external_authenticate_refusal EA2 = refusal (codes "EA2") 0x6300
+external_authenticate_refusal EA3 = refusal (codes "EA3") 0x6982
 
 abbrev pub external_authenticate_rules : List Rule
 external_authenticate_rules = EA EA2 ∷ EA EA3 ∷ []

@@ -1,7 +1,7 @@
 -- INSTALL [for extradition] (GlobalPlatform Card Specification 2.3.1, 9.4.1 and 11.5): an application, a security domain or an
 -- Executable Load File gets another security domain. A domain that is moved to itself is a root from then on: that, and the order
 -- of the rules, are this profile's own.
-use Rattle.std.specs.Prelude.{◌≡◌, ◌≢◌, ◌⊎◌, ℕ, List, [], ◌∷◌, Option, MatchOption, None, Some, false}
+use Rattle.std.specs.Prelude.{◌≡◌, ◌≢◌, ◌⊎◌, ℕ, List, [], ◌∷◌, Option, MatchOption, None, Some, codes, false}
 use Rattle.card_types.specs.Aid.{IsAid}
 use Rattle.card_types.specs.Privileges.{authorized_management, delegated_management}
 use Rattle.card_types.specs.Registry.{Key, LoadFile, Registry, domain_of, entry_named, file_named}
@@ -16,6 +16,7 @@ use Rattle.policy_machine.specs.Charge.{IsAtOrAbove, IsInCharge}
 use Rattle.policy_machine.specs.Delegation.{Holds, IsVerifier, MayManage, NoVerifier, unconfirmed}
 use Rattle.policy_machine.specs.InstallFields.{InstallData, IsInstallData, approval_in}
 use Rattle.policy_machine.specs.Management.{acting}
+use Rattle.policy_machine.specs.Refusal.{Refusal, refusal}
 use Rattle.policy_machine.specs.declared.extradition.RuleEX.{RuleEX}
 use Rattle.policy_machine.specs.declared.extradition.RuleEX.TheVariants.{EX1, EX2, EX3, EX4, EX5, EX6, EX7}
 use Rattle.policy_machine.specs.declared.rule.Rule.TheVariants.{EX}
@@ -47,6 +48,15 @@ entry_domain (Some domain) = domain
 
 abbrev pub domain_of_thing : Registry → List ℕ → List ℕ
 domain_of_thing registry aid = file_domain (file_named registry aid) (entry_domain (domain_of registry aid))
+
+abbrev pub extradition_refusal : RuleEX → Refusal
+extradition_refusal EX1 = refusal (codes "EX1") 0x6982
+extradition_refusal EX2 = refusal (codes "EX2") 0x6A88
+extradition_refusal EX3 = refusal (codes "EX3") 0x6985
+extradition_refusal EX4 = refusal (codes "EX4") 0x6982
+extradition_refusal EX5 = refusal (codes "EX5") 0x6985
+extradition_refusal EX6 = refusal (codes "EX6") 0x6985
+extradition_refusal EX7 = refusal (codes "EX7") 0x6982
 
 -- who manages in its own right moves a thing to itself, to a domain below it, or to the thing itself
 abbrev pub IsOutOfReach : Admitted → InstallData → Type 0

@@ -1,6 +1,6 @@
 -- GET DATA (ISO/IEC 7816-4:2013, chapter 11; GlobalPlatform Card Specification 2.3.1, 11.3; Amendment D, chapter 7 for the
 -- sequence counter).
-use Rattle.std.specs.Prelude.{◌≡◌, ◌≢◌, ◌⊎◌, ℕ, ◌+◌, ◌*◌, List, [], ◌∷◌, map, length, Some}
+use Rattle.std.specs.Prelude.{◌≡◌, ◌≢◌, ◌⊎◌, ℕ, ◌+◌, ◌*◌, List, [], ◌∷◌, map, length, Some, codes}
 use Rattle.bertlv.specs.Spelling.{AreElements, Element, Spelling}
 use Rattle.card_types.specs.Registry.{Key, Counter, Object, Registry, keys_of, object_named}
 use Rattle.scp03_card.specs.Offer.{counter_bytes}
@@ -8,8 +8,10 @@ use Rattle.policy_machine.specs.Admission.{Admitted}
 use Rattle.policy_machine.specs.CommandForm.{CommandForm, unreceipted_form}
 use Rattle.policy_machine.specs.KeySets.{UsesCounter}
 use Rattle.policy_machine.specs.State.{Effect, selected_on}
+use Rattle.policy_machine.specs.Refusal.{Refusal, refusal}
 use Rattle.policy_machine.specs.declared.rule.Rule.{Rule}
 use Rattle.policy_machine.specs.declared.rule.Rule.TheVariants.{GD}
+use Rattle.policy_machine.specs.declared.get_data.RuleGD.{RuleGD}
 use Rattle.policy_machine.specs.declared.get_data.RuleGD.TheVariants.{GD1}
 
 -- P1 and P2 are the tag, of any value
@@ -47,6 +49,9 @@ HasData registry domain tag value =
 abbrev pub AsksFor : Admitted → List ℕ → Type 0
 AsksFor admitted value =
     HasData admitted.at.registry (selected_on admitted.at.volatile admitted.channel) (tag_of admitted.command.p1 admitted.command.p2) value
+
+abbrev pub get_data_refusal : RuleGD → Refusal
+get_data_refusal GD1 = refusal (codes "GD1") 0x6A88
 
 abbrev pub get_data_rules : List Rule
 get_data_rules = GD GD1 ∷ []

@@ -1,6 +1,6 @@
 -- GET STATUS (GlobalPlatform Card Specification 2.3.1, 11.4): lists things of the registry, in as many parts as it takes. How many bytes a
 -- part has is this profile's own.
-use Rattle.std.specs.Prelude.{◌≡◌, ◌≢◌, ◌⊎◌, ◌↔◌, ℕ, ◌+◌, ◌++◌, ◌<◌, ◌≤◌, List, [], ◌∷◌, Option, None, Some, Contains, MatchOption, true, length, map, nat_eq, if◌then◌else◌, ◌==◌, ◌&&◌}
+use Rattle.std.specs.Prelude.{◌≡◌, ◌≢◌, ◌⊎◌, ◌↔◌, ℕ, ◌+◌, ◌++◌, ◌<◌, ◌≤◌, List, [], ◌∷◌, Option, None, Some, Contains, MatchOption, true, codes, length, map, nat_eq, if◌then◌else◌, ◌==◌, ◌&&◌}
 use Rattle.std.specs.List.{starts_with}
 use Rattle.std.specs.List.Sorted.{IsStrictlySortedBy}
 use Rattle.apdu_core.specs.Apdu.{Apdu}
@@ -16,6 +16,7 @@ use Rattle.policy_machine.specs.Admission.{Admitted}
 use Rattle.policy_machine.specs.Charge.{HoldsPrivilege, IsAtOrAbove}
 use Rattle.policy_machine.specs.CommandForm.{CommandForm, unreceipted_form}
 use Rattle.policy_machine.specs.Management.{ManagementFails, acting}
+use Rattle.policy_machine.specs.Refusal.{Refusal, refusal}
 use Rattle.policy_machine.specs.State.{Effect, Channel, Place, Volatile, channel_at, place_in, with_channel}
 use Rattle.policy_machine.specs.declared.get_status.RuleGS.{RuleGS}
 use Rattle.policy_machine.specs.declared.get_status.RuleGS.TheVariants.{GS1, GS2}
@@ -172,6 +173,10 @@ abbrev pub IsLeftAt : Admitted → Effect → List Thing → List Thing → Type
 IsLeftAt admitted done shown [] = (done.state.volatile ≡ admitted.at.volatile) × (done.status ≡ 0x9000)
 IsLeftAt admitted done shown (next ∷ left) =
     (done.state.volatile ≡ with_place admitted.at.volatile admitted.channel (place_behind admitted shown)) × (done.status ≡ 0x6310)
+
+abbrev pub get_status_refusal : RuleGS → Refusal
+get_status_refusal GS1 = refusal (codes "GS1") 0x6985
+get_status_refusal GS2 = refusal (codes "GS2") 0x6A88
 
 abbrev pub get_status_rules : List Rule
 get_status_rules = M M2 ∷ GS GS1 ∷ GS GS2 ∷ []

@@ -1,5 +1,5 @@
 -- INITIALIZE UPDATE (GlobalPlatform Amendment D, 7.1.1): the card offers a session.
-use Rattle.std.specs.Prelude.{◌≡◌, ◌≢◌, ℕ, List, ◌∷◌, ◌++◌, [], true, Option, None, Some, length, replicate}
+use Rattle.std.specs.Prelude.{◌≡◌, ◌≢◌, ℕ, List, ◌∷◌, ◌++◌, [], true, Option, None, Some, length, replicate, codes}
 use Rattle.card_types.specs.Counters.{raised}
 use Rattle.card_types.specs.Registry.{Counter, Key, Object, Registry, key_named, object_named}
 use Rattle.card_types.specs.declared.factory.TheConstants.{ISSUER}
@@ -11,6 +11,8 @@ use Rattle.policy_machine.specs.KeySets.{UsesSet}
 use Rattle.policy_machine.specs.Management.{ManagementFails, acting}
 use Rattle.policy_machine.specs.Select.{is_card_locked}
 use Rattle.policy_machine.specs.State.{Effect, Offered, with_secure_channel}
+use Rattle.policy_machine.specs.Refusal.{Refusal, refusal}
+use Rattle.policy_machine.specs.declared.initialize_update.RuleIU.{RuleIU}
 use Rattle.policy_machine.specs.declared.initialize_update.RuleIU.TheVariants.{IU1, IU2, IU3}
 use Rattle.policy_machine.specs.declared.management.RuleM.TheVariants.{M2}
 use Rattle.policy_machine.specs.declared.rule.Rule.{Rule}
@@ -23,6 +25,11 @@ InitializeUpdateParameters p2 = p2 ≡ 0x00
 -- the host challenge
 abbrev pub InitializeUpdateField : List ℕ → Type 0
 InitializeUpdateField body = length body ≡ 8
+
+abbrev pub initialize_update_refusal : RuleIU → Refusal
+initialize_update_refusal IU1 = refusal (codes "IU1") 0x6985
+initialize_update_refusal IU2 = refusal (codes "IU2") 0x6A88
+initialize_update_refusal IU3 = refusal (codes "IU3") 0x6985
 
 abbrev pub offer_rules : List Rule
 offer_rules = M M2 ∷ IU IU1 ∷ IU IU2 ∷ IU IU3 ∷ []

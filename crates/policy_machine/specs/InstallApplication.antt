@@ -1,6 +1,6 @@
 -- INSTALL [for install] (GlobalPlatform Card Specification 2.3.1, 9.3.2 and 11.5): an application or a security domain is made from a
 -- Module of an Executable Load File. Which privileges are granted to whom, and the order of the rules, are this profile's own.
-use Rattle.std.specs.Prelude.{◌≡◌, ◌≢◌, ◌⊎◌, ℕ, ◌≤◌, List, [], ◌∷◌, Contains, MatchOption, None, false, true, IsSome, if◌then◌else◌, length, ◌==◌, ◌&&◌}
+use Rattle.std.specs.Prelude.{◌≡◌, ◌≢◌, ◌⊎◌, ℕ, ◌≤◌, List, [], ◌∷◌, Contains, MatchOption, None, codes, false, true, IsSome, if◌then◌else◌, length, ◌==◌, ◌&&◌}
 use Rattle.std.specs.Int.RustNames.{bit_and}
 use Rattle.bertlv.specs.Spelling.{AreElements, Element}
 use Rattle.card_types.specs.Aid.{IsAid, same_aid}
@@ -17,6 +17,7 @@ use Rattle.policy_machine.specs.Charge.{IsFileInCharge}
 use Rattle.policy_machine.specs.Delegation.{Holds, MayManage, unconfirmed}
 use Rattle.policy_machine.specs.InstallFields.{InstallData, IsInstallData, approval_in}
 use Rattle.policy_machine.specs.Management.{acting}
+use Rattle.policy_machine.specs.Refusal.{Refusal, refusal}
 use Rattle.policy_machine.specs.declared.install_application.RuleII.{RuleII}
 use Rattle.policy_machine.specs.declared.install_application.RuleII.TheVariants.{II1, II2, II3, II4, II5, II6, II7}
 use Rattle.policy_machine.specs.declared.rule.Rule.TheVariants.{II}
@@ -79,6 +80,15 @@ abbrev pub IsTakenAid : Admitted → List ℕ → Type 0
 IsTakenAid admitted aid =
     IsSome (entry_named admitted.at.registry aid) ⊎ IsSome (file_named admitted.at.registry aid)
     ⊎ MatchOption admitted.at.volatile.load ⊥ (λ load. load.aid ≡ aid)
+
+abbrev pub install_refusal : RuleII → Refusal
+install_refusal II1 = refusal (codes "II1") 0x6982
+install_refusal II2 = refusal (codes "II2") 0x6A88
+install_refusal II3 = refusal (codes "II3") 0x6982
+install_refusal II4 = refusal (codes "II4") 0x6A80
+install_refusal II5 = refusal (codes "II5") 0x6A80
+install_refusal II6 = refusal (codes "II6") 0x6982
+install_refusal II7 = refusal (codes "II7") 0x6A84
 
 abbrev pub InstallingFails : Admitted → InstallAsked → RuleII → Type 0
 -- the domain does not manage content

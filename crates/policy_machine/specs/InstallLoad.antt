@@ -1,6 +1,6 @@
 -- INSTALL [for load] (GlobalPlatform Card Specification 2.3.1, 9.3.1 and 11.5): a load session begins, in which an Executable Load File
 -- comes by LOAD. That the session is the only one, and the order of the rules, are this profile's own.
-use Rattle.std.specs.Prelude.{◌≡◌, ◌≢◌, ◌⊎◌, ℕ, ◌≤◌, List, [], ◌∷◌, ◌++◌, None, IsSome, length, map}
+use Rattle.std.specs.Prelude.{◌≡◌, ◌≢◌, ◌⊎◌, ℕ, ◌≤◌, List, [], ◌∷◌, ◌++◌, None, codes, IsSome, length, map}
 use Rattle.std.specs.List.{flat_map}
 use Rattle.tokens_receipts.specs.Receipt.{with_length}
 use Rattle.card_types.specs.Aid.{IsAid}
@@ -14,6 +14,7 @@ use Rattle.policy_machine.specs.CommandForm.{CommandForm}
 use Rattle.policy_machine.specs.Delegation.{Approval, Holds, MayManage, token_rules}
 use Rattle.policy_machine.specs.InstallFields.{AreLengthFields}
 use Rattle.policy_machine.specs.Management.{acting}
+use Rattle.policy_machine.specs.Refusal.{Refusal, refusal}
 use Rattle.policy_machine.specs.Sound.{IsHashLength}
 use Rattle.policy_machine.specs.State.{Effect, LoadSession, with_load}
 use Rattle.policy_machine.specs.declared.install_load.RuleIL.{RuleIL}
@@ -57,6 +58,15 @@ named_or (byte ∷ bytes) other = byte ∷ bytes
 
 abbrev pub file_domain_for : Admitted → LoadData → List ℕ
 file_domain_for admitted given = named_or given.domain (acting admitted)
+
+abbrev pub install_load_refusal : RuleIL → Refusal
+install_load_refusal IL1 = refusal (codes "IL1") 0x6982
+install_load_refusal IL2 = refusal (codes "IL2") 0x6985
+install_load_refusal IL3 = refusal (codes "IL3") 0x6A80
+install_load_refusal IL4 = refusal (codes "IL4") 0x6A88
+install_load_refusal IL5 = refusal (codes "IL5") 0x6982
+install_load_refusal IL6 = refusal (codes "IL6") 0x6A80
+install_load_refusal IL7 = refusal (codes "IL7") 0x6A84
 
 abbrev pub InstallingLoadFails : Admitted → LoadData → RuleIL → Type 0
 -- the domain does not manage content

@@ -1,6 +1,6 @@
 -- LOAD (GlobalPlatform Card Specification 2.3.1, 9.3.5 and 11.6): a block of the Executable Load File that comes on the channel. With the
 -- last one the file is there. Who may load, the limits and the order of the rules are this profile's own.
-use Rattle.std.specs.Prelude.{◌≡◌, ◌≢◌, ◌⊎◌, ℕ, ◌==◌, ◌++◌, List, [], ◌∷◌, Some}
+use Rattle.std.specs.Prelude.{◌≡◌, ◌≢◌, ◌⊎◌, ℕ, ◌==◌, ◌++◌, List, [], ◌∷◌, Some, codes}
 use Rattle.apdu_core.specs.Apdu.{Apdu}
 use Rattle.card_types.specs.Privileges.{delegated_management}
 use Rattle.card_types.specs.Registry.{LoadFile, Registry}
@@ -11,6 +11,7 @@ use Rattle.policy_machine.specs.CommandForm.{CommandForm}
 use Rattle.policy_machine.specs.Delegation.{Holds, IsAnswered, unconfirmed, ReceiptFails}
 use Rattle.policy_machine.specs.LoadBlocks.{Block, BringsBytes, HasNoLength, HasNoRoom, HasOtherCount, HasOtherHash, with_block}
 use Rattle.policy_machine.specs.Management.{ManagementFails, acting}
+use Rattle.policy_machine.specs.Refusal.{Refusal, refusal}
 use Rattle.policy_machine.specs.State.{Effect, LoadSession, without_load}
 use Rattle.policy_machine.specs.declared.delegation.RuleRC.TheVariants.{RC1}
 use Rattle.policy_machine.specs.declared.load.RuleLO.{RuleLO}
@@ -34,6 +35,16 @@ IsLoadOn admitted load = (admitted.at.volatile.load ≡ Some load) × (load.chan
 -- the channel has a load session, and this holds of it
 abbrev pub InLoad : Admitted → (LoadSession → Type 0) → Type 0
 InLoad admitted holds = (load : LoadSession) × IsLoadOn admitted load × holds load
+
+abbrev pub load_refusal : RuleLO → Refusal
+load_refusal LO1 = refusal (codes "LO1") 0x6985
+load_refusal LO2 = refusal (codes "LO2") 0x6A86
+load_refusal LO3 = refusal (codes "LO3") 0x6A80
+load_refusal LO4 = refusal (codes "LO4") 0x6A84
+load_refusal LO5 = refusal (codes "LO5") 0x6A80
+load_refusal LO6 = refusal (codes "LO6") 0x6A80
+load_refusal LO7 = refusal (codes "LO7") 0x6982
+load_refusal LO8 = refusal (codes "LO8") 0x6985
 
 -- whether a block may come, then what it brings, and with the last one whether the file may be added
 abbrev pub front_rules : List Rule

@@ -1,6 +1,6 @@
 -- INSTALL [for make selectable] (GlobalPlatform Card Specification 2.3.1, 9.3.3 and 11.5): an application that is installed can be
 -- selected from then on.
-use Rattle.std.specs.Prelude.{◌≡◌, ◌≢◌, ◌⊎◌, ℕ, List, [], ◌∷◌, MatchOption, None, false}
+use Rattle.std.specs.Prelude.{◌≡◌, ◌≢◌, ◌⊎◌, ℕ, List, [], ◌∷◌, MatchOption, None, codes, false}
 use Rattle.card_types.specs.Aid.{IsAid}
 use Rattle.card_types.specs.Privileges.{ArePrivilegeBytes}
 use Rattle.card_types.specs.Registry.{entry_named}
@@ -13,6 +13,7 @@ use Rattle.policy_machine.specs.Admission.{Admitted}
 use Rattle.policy_machine.specs.Delegation.{MayManage, unconfirmed}
 use Rattle.policy_machine.specs.InstallFields.{InstallData, IsInstallData, approval_in}
 use Rattle.policy_machine.specs.Management.{acting}
+use Rattle.policy_machine.specs.Refusal.{Refusal, refusal}
 use Rattle.policy_machine.specs.declared.make_selectable.RuleMS.{RuleMS}
 use Rattle.policy_machine.specs.declared.make_selectable.RuleMS.TheVariants.{MS1, MS2, MS3, MS4, MS5}
 use Rattle.policy_machine.specs.declared.rule.Rule.TheVariants.{MS}
@@ -32,6 +33,13 @@ pub record AsksToMakeSelectable (body : List ℕ) (given : InstallData) : Type 0
 -- installed, and not locked
 abbrev pub is_installed : LifeMark
 is_installed = record { life = Installed; locked = false }
+
+abbrev pub selectable_refusal : RuleMS → Refusal
+selectable_refusal MS1 = refusal (codes "MS1") 0x6982
+selectable_refusal MS2 = refusal (codes "MS2") 0x6A88
+selectable_refusal MS3 = refusal (codes "MS3") 0x6982
+selectable_refusal MS4 = refusal (codes "MS4") 0x6985
+selectable_refusal MS5 = refusal (codes "MS5") 0x6A80
 
 abbrev pub MakingSelectableFails : Admitted → InstallData → RuleMS → Type 0
 -- the domain does not manage content

@@ -1,12 +1,14 @@
 -- MANAGE CHANNEL (ISO/IEC 7816-4:2013, 11.1.2; GlobalPlatform Card Specification 2.3.1, 11.7): opens a logical channel, with
 -- the Issuer Security Domain selected, or closes one.
-use Rattle.std.specs.Prelude.{◌≡◌, ◌⊎◌, ℕ, ◌≤◌, List, [], ◌∷◌, Bool, true, false, Option, None, Some, MatchOption, position}
+use Rattle.std.specs.Prelude.{◌≡◌, ◌⊎◌, ℕ, ◌≤◌, List, [], ◌∷◌, Bool, true, false, Option, None, Some, MatchOption, position, codes}
 use Rattle.card_types.specs.declared.factory.TheConstants.{ISSUER}
 use Rattle.policy_machine.specs.Admission.{Admitted}
 use Rattle.policy_machine.specs.CommandForm.{CommandForm, unreceipted_form}
 use Rattle.policy_machine.specs.State.{Effect, Channel, channel_at, fresh, with_channel, without_channel}
+use Rattle.policy_machine.specs.Refusal.{Refusal, refusal}
 use Rattle.policy_machine.specs.declared.rule.Rule.{Rule}
 use Rattle.policy_machine.specs.declared.rule.Rule.TheVariants.{MC}
+use Rattle.policy_machine.specs.declared.manage_channel.RuleMC.{RuleMC}
 use Rattle.policy_machine.specs.declared.manage_channel.RuleMC.TheVariants.{MC1}
 
 -- 00 00 opens a channel, 80 and a number from 01 to 03 closes it
@@ -22,6 +24,9 @@ is_closed (Some channel) = false
 
 abbrev pub lowest_closed : List (Option Channel) → Option ℕ
 lowest_closed channels = position is_closed channels
+
+abbrev pub manage_channel_refusal : RuleMC → Refusal
+manage_channel_refusal MC1 = refusal (codes "MC1") 0x6A81
 
 abbrev pub manage_channel_rules : List Rule
 manage_channel_rules = MC MC1 ∷ []

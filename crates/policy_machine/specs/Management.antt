@@ -1,13 +1,19 @@
 -- The rules that the commands of card content management and INITIALIZE UPDATE have in common (GlobalPlatform Card Specification
 -- 2.3.1, chapter 9).
-use Rattle.std.specs.Prelude.{◌≡◌, ◌≢◌, ◌⊎◌, ℕ, List, true, MatchOption}
+use Rattle.std.specs.Prelude.{◌≡◌, ◌≢◌, ◌⊎◌, ℕ, List, true, MatchOption, codes}
 use Rattle.card_types.specs.Registry.{entry_named}
 use Rattle.card_types.specs.declared.factory.TheConstants.{ISSUER}
 use Rattle.policy_machine.specs.Admission.{Admitted}
 use Rattle.policy_machine.specs.Select.{is_card_locked}
 use Rattle.policy_machine.specs.State.{selected_on}
+use Rattle.policy_machine.specs.Refusal.{Refusal, refusal}
 use Rattle.policy_machine.specs.declared.management.RuleM.{RuleM}
 use Rattle.policy_machine.specs.declared.management.RuleM.TheVariants.{M1, M2, M3}
+
+abbrev pub management_refusal : RuleM → Refusal
+management_refusal M1 = refusal (codes "M1") 0x6985
+management_refusal M2 = refusal (codes "M2") 0x6985
+management_refusal M3 = refusal (codes "M3") 0x6985
 
 -- the security domain that the command acts for: the one that is selected on its channel
 abbrev pub acting : Admitted → List ℕ

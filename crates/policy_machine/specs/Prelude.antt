@@ -51,7 +51,7 @@ pub use Rattle.policy_machine.specs.OwnRules.{AlikeAreJudgedAlike, AreAlike, Ope
 pub use Rattle.policy_machine.specs.PutKey.{AreKeysPut, AreKeysSent, AreOfOneLength, AsksToPut, HasFieldLengths, HasKeyFields, IsKeySent, IsNewVersion, KeysAsked, PuttingKeyFails, SentKey, counters_from, key_count, key_field, keys_from, keys_left, managed_put_key, own_keys_left, sealed_size}
 pub use Rattle.policy_machine.specs.Receipts.{Confirms, IsReceiptedBy, RepliesReceipt, number_of}
 pub use Rattle.policy_machine.specs.Refusal.{IsFirst}
-pub use Rattle.policy_machine.specs.Rules.{name_of, refusal_by, rule_of, status_of, statuses_of}
+pub use Rattle.policy_machine.specs.Rules.{name_of, refusal_by, status_of, statuses_of}
 pub use Rattle.policy_machine.specs.Run.{Command, Reset, Run}
 pub use Rattle.policy_machine.specs.RunsApart.{RootsGetNothing, StaysThrough, TreesStay, TreesStayInRuns}
 pub use Rattle.policy_machine.specs.Select.{IsControlInformation, SelectEffect, SelectFails, SelectsEntry, control_parts, fits_select, least_fitting, select}

@@ -1,6 +1,6 @@
 -- PUT KEY (GlobalPlatform Card Specification 2.3.1, 11.8; Amendment D, 7.2): a key set, a token key or a receipt key of the selected
 -- domain is put, in the place of the keys with another key version number, or of none.
-use Rattle.std.specs.Prelude.{◌≡◌, ◌≢◌, ◌⊎◌, ℕ, ◌+◌, ◌*◌, ◌/◌, ◌<◌, ◌≤◌, List, [], ◌∷◌, ◌++◌, All, Bool, MatchOption, false, filter, if◌then◌else◌, length, map, nat_lt, replicate, take, true, ◌==◌}
+use Rattle.std.specs.Prelude.{◌≡◌, ◌≢◌, ◌⊎◌, ℕ, ◌+◌, ◌*◌, ◌/◌, ◌<◌, ◌≤◌, List, [], ◌∷◌, ◌++◌, All, Bool, MatchOption, codes, false, filter, if◌then◌else◌, length, map, nat_lt, replicate, take, true, ◌==◌}
 use Rattle.std.specs.List.{concat}
 use Rattle.aes_block.specs.Cipher.{cipher}
 use Rattle.card_types.specs.Aid.{same_aid}
@@ -14,6 +14,7 @@ use Rattle.policy_machine.specs.Arranged.{IsArranged}
 use Rattle.policy_machine.specs.KeySets.{counters_but, has_key_version, keys_but, with_keys}
 use Rattle.policy_machine.specs.Management.{acting}
 use Rattle.policy_machine.specs.State.{session_on}
+use Rattle.policy_machine.specs.Refusal.{Refusal, refusal}
 use Rattle.policy_machine.specs.declared.put_key.RulePK.{RulePK}
 use Rattle.policy_machine.specs.declared.put_key.RulePK.TheVariants.{PK1, PK2, PK3, PK4}
 use Rattle.policy_machine.specs.declared.rule.Rule.{Rule}
@@ -101,6 +102,12 @@ AreOpened admitted sent keys =
 -- each check value is that of its key
 abbrev pub ChecksFit : List SentKey → List (List ℕ) → Type 0
 ChecksFit sent keys = map check_value keys ≡ map (λ one. one.check) sent
+
+abbrev pub put_key_refusal : RulePK → Refusal
+put_key_refusal PK1 = refusal (codes "PK1") 0x6A88
+put_key_refusal PK2 = refusal (codes "PK2") 0x6A80
+put_key_refusal PK3 = refusal (codes "PK3") 0x6A80
+put_key_refusal PK4 = refusal (codes "PK4") 0x6A84
 
 -- the keys that stay, on the card and with the domain
 abbrev pub keys_left : Admitted → List Key

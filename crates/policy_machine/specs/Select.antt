@@ -1,5 +1,5 @@
 -- SELECT by partial AID (ISO/IEC 7816-4:2013, 11.1.1; GlobalPlatform Card Specification 2.3.1, 11.9 and chapter 6).
-use Rattle.std.specs.Prelude.{◌≡◌, ℕ, ◌≤◌, List, [], ◌∷◌, Bool, true, false, ◌&&◌, ◌||◌, not, Option, None, MatchOption, find, length, if◌then◌else◌, ◌==◌, nat_eq}
+use Rattle.std.specs.Prelude.{◌≡◌, ℕ, ◌≤◌, List, [], ◌∷◌, Bool, true, false, ◌&&◌, ◌||◌, not, Option, None, MatchOption, find, length, if◌then◌else◌, ◌==◌, nat_eq, codes}
 use Rattle.std.specs.List.{starts_with}
 use Rattle.bertlv.specs.Spelling.{AreElements, Element, Spelling}
 use Rattle.card_types.specs.Aid.{same_aid}
@@ -13,8 +13,10 @@ use Rattle.card_types.specs.declared.life.LifeMark.{LifeMark}
 use Rattle.policy_machine.specs.Admission.{Admitted}
 use Rattle.policy_machine.specs.CommandForm.{CommandForm, unreceipted_form}
 use Rattle.policy_machine.specs.State.{Effect, with_selected}
+use Rattle.policy_machine.specs.Refusal.{Refusal, refusal}
 use Rattle.policy_machine.specs.declared.rule.Rule.{Rule}
 use Rattle.policy_machine.specs.declared.rule.Rule.TheVariants.{SE}
+use Rattle.policy_machine.specs.declared.select.RuleSE.{RuleSE}
 use Rattle.policy_machine.specs.declared.select.RuleSE.TheVariants.{SE1}
 
 -- by name, the first or only occurrence
@@ -48,6 +50,9 @@ fits_select card_life partial entry = fits_as card_life partial entry.aid entry.
 -- the least fitting entry, which is the first, since entries are in ascending order of their AIDs
 abbrev pub least_fitting : Registry → List ℕ → Option Entry
 least_fitting registry partial = find (fits_select registry.life partial) registry.entries
+
+abbrev pub select_refusal : RuleSE → Refusal
+select_refusal SE1 = refusal (codes "SE1") 0x6A82
 
 abbrev pub select_rules : List Rule
 select_rules = SE SE1 ∷ []

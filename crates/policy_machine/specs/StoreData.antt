@@ -1,6 +1,6 @@
 -- STORE DATA (GlobalPlatform Card Specification 2.3.1, 11.11): data objects of the selected domain are put, each in the place of
 -- the one with its tag.
-use Rattle.std.specs.Prelude.{◌≡◌, ◌≢◌, ◌⊎◌, ℕ, ◌<◌, List, [], ◌∷◌, All, length}
+use Rattle.std.specs.Prelude.{◌≡◌, ◌≢◌, ◌⊎◌, ℕ, ◌<◌, List, [], ◌∷◌, All, codes, length}
 use Rattle.bertlv.specs.Spelling.{AreElements, Element}
 use Rattle.card_types.specs.Registry.{object_order, Object, Registry}
 use Rattle.card_types.specs.Well.{IsObject}
@@ -9,6 +9,7 @@ use Rattle.policy_machine.specs.Admission.{Admitted}
 use Rattle.policy_machine.specs.Arranged.{IsArranged}
 use Rattle.policy_machine.specs.DataObjects.{with_data, with_objects}
 use Rattle.policy_machine.specs.Management.{acting}
+use Rattle.policy_machine.specs.Refusal.{Refusal, refusal}
 use Rattle.policy_machine.specs.declared.rule.Rule.TheVariants.{SD}
 use Rattle.policy_machine.specs.declared.store_data.RuleSD.{RuleSD}
 use Rattle.policy_machine.specs.declared.store_data.RuleSD.TheVariants.{SD1}
@@ -26,6 +27,9 @@ pub record HasObjects (body : List ℕ) (elements : List Element) : Type 0 where
 
 abbrev pub StoreDataField : List ℕ → Type 0
 StoreDataField body = (elements : List Element) × HasObjects body elements
+
+abbrev pub store_data_refusal : RuleSD → Refusal
+store_data_refusal SD1 = refusal (codes "SD1") 0x6A84
 
 -- the objects that the card has with those of the data field
 abbrev pub objects_stored : Admitted → List Element → List Object

@@ -1,5 +1,10 @@
 //! The rules of INSTALL [for load] (GlobalPlatform Card Specification 2.3.1, 9.3.1 and 11.5).
 
+ghost use Rattle.std.specs.Prelude.{◌≡◌};
+ghost use Rattle.policy_machine.specs.InstallLoad.{install_load_refusal};
+
+use crate::refusal::Refusal;
+
 /// The rules of INSTALL [for load].
 #[derive(Clone, Copy, Debug, PartialEq, Eq)]
 pub enum RuleIL {
@@ -17,4 +22,21 @@ pub enum RuleIL {
     IL6,
     /// The card has no room for another Executable Load File.
     IL7,
+}
+
+impl RuleIL {
+    /// The rule's name, and the status word of a command that it refuses.
+    pub fn refusal(&self) -> Refusal
+        ensures { result ≡ install_load_refusal self.now }
+    {
+        match self {
+            RuleIL::IL1 => Refusal::new("IL1", 0x6982),
+            RuleIL::IL2 => Refusal::new("IL2", 0x6985),
+            RuleIL::IL3 => Refusal::new("IL3", 0x6A80),
+            RuleIL::IL4 => Refusal::new("IL4", 0x6A88),
+            RuleIL::IL5 => Refusal::new("IL5", 0x6982),
+            RuleIL::IL6 => Refusal::new("IL6", 0x6A80),
+            RuleIL::IL7 => Refusal::new("IL7", 0x6A84),
+        }
+    }
 }
