@@ -3,19 +3,8 @@ use Rattle.std.specs.Prelude.{◌≡◌, ℕ, ◌≤◌, List, [], Option, None,
 use Rattle.apdu_core.specs.Apdu.{Apdu}
 use Rattle.card_types.specs.Aid.{IsAid}
 use Rattle.policy_machine.specs.InstallLoad.{AsksToLoad, LoadData, load_approval}
-use Rattle.content_rules.specs.declared.install_load.LoadFields.{LoadFields}
 use Rattle.content_rules.specs.declared.install_load.LoadInstallRequest.{LoadInstallRequest}
 use Rattle.policy_slots.specs.HoldersFound.{approval_of}
-
--- the fields that were read
-abbrev pub load_data_of : LoadFields → LoadData
-load_data_of fields = record {
-  file = fields.file.now;
-  domain = fields.domain.now;
-  hash = fields.hash.now;
-  parameters = fields.parameters.now;
-  token = fields.token.now;
-}
 
 -- the field names this domain, or it is empty
 abbrev pub NamesDomain : Option (List ℕ) → List ℕ → Type 0

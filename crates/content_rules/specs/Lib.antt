@@ -2,6 +2,7 @@ pub mod DeleteObjectFound
 pub mod DeleteObjectRequests
 pub mod ExtraditionRequests
 pub mod FieldsRead
+pub mod FormRefused
 pub mod InstallApplicationRequests
 pub mod InstallLoadRequests
 pub mod LoadFound

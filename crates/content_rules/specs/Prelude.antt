@@ -9,9 +9,10 @@ pub use Rattle.card_types.specs.Well.{Well}
 pub use Rattle.content_rules.specs.DeleteObjectFound.{FindsThing, HasNoneFrom, HasOthersIn, IsAlone, IsFrom, IsInUseIn, IsLoadDomain, IsPartOutOfCharge, IsUnselected}
 pub use Rattle.content_rules.specs.DeleteObjectRequests.{IsDeletionOf, IsDeletionRequest}
 pub use Rattle.content_rules.specs.ExtraditionRequests.{FindsMove, IsExtraditionOf, IsExtraditionRequest}
-pub use Rattle.content_rules.specs.FieldsRead.{given_of}
+pub use Rattle.content_rules.specs.FieldsRead.{first_four, given_of, load_data_of}
+pub use Rattle.content_rules.specs.FormRefused.{IsFormRefused}
 pub use Rattle.content_rules.specs.InstallApplicationRequests.{FindsSource, IsInstallOf, IsInstallRequest, IsOutOfCharge, exceeds_by, is_loaded_as}
-pub use Rattle.content_rules.specs.InstallLoadRequests.{IsLoadInstallOf, IsLoadInstallRequest, NamesDomain, load_data_of}
+pub use Rattle.content_rules.specs.InstallLoadRequests.{IsLoadInstallOf, IsLoadInstallRequest, NamesDomain}
 pub use Rattle.content_rules.specs.LoadFound.{FindsDomain, IsForLast, IsForLoad, named_on, number_rules}
 pub use Rattle.content_rules.specs.LoadRequests.{IsLoadOf, IsLoadRequest}
 pub use Rattle.content_rules.specs.MakeSelectableRequests.{AreGiven, IsInstalledWith, IsSelectableOf, IsSelectableRequest}
@@ -27,12 +28,12 @@ pub use Rattle.policy_machine.specs.DeleteKey.{DeleteParameters}
 pub use Rattle.policy_machine.specs.DeleteObject.{AsksToDelete, DeletingFails, DeletionAsked, IsTokenField, managed_delete_object}
 pub use Rattle.policy_machine.specs.Extradition.{AsksToExtradite, ExtraditingFails, ExtraditionParameters, IsOutOfReach, IsUnapprovable, is_personalized, managed_extradition}
 pub use Rattle.policy_machine.specs.InstallApplication.{AreInstallParameters, AsksToInstall, InstallAsked, InstallParameters, IsTakenAid, MayBeMade, managed_install}
-pub use Rattle.policy_machine.specs.InstallFields.{BeginsWithField, InstallData, IsInstallData, signed_fields}
+pub use Rattle.policy_machine.specs.InstallFields.{AreLengthFields, BeginsWithField, InstallData, IsInstallData, signed_fields}
 pub use Rattle.policy_machine.specs.InstallLoad.{AsksToLoad, InstallLoadParameters, InstallingLoadFails, IsLoadData, LoadData, file_domain_for, install_load, judged_install_load, signed_load_fields}
 pub use Rattle.policy_machine.specs.Load.{IsLoadOn, LoadFails, LoadParameters, LoadingFails, front_rules, last_rules, loading}
 pub use Rattle.policy_machine.specs.MakeSelectable.{AsksToMakeSelectable, MakeSelectableParameters, is_installed, managed_selectable}
 pub use Rattle.policy_machine.specs.Malformed.{IsRefusedBy}
-pub use Rattle.policy_machine.specs.ManagedForm.{command_form}
+pub use Rattle.policy_machine.specs.ManagedForm.{JudgedForm, command_form}
 pub use Rattle.policy_machine.specs.Refusal.{IsFirst}
 pub use Rattle.policy_machine.specs.Sound.{IsHashLength, IsSound}
 pub use Rattle.policy_machine.specs.State.{LoadSession}

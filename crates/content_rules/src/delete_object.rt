@@ -1,15 +1,16 @@
 //! DELETE of an application, a security domain or an Executable Load File (GlobalPlatform Card Specification 2.3.1, 9.5 and 11.2).
 
-ghost use Rattle.std.specs.Prelude.{◌≡◌, ◌↔◌, ◌⊎◌, ◌==◌, ℕ, List, Some, IfErr, IfNone, IfOk, IfSome, IsTrue, length, refl, true};
-ghost use Rattle.content_rules.specs.Prelude.{ActsIn, Admitted, AsksToDelete, DeleteParameters, DeletingFails, DeletionAsked, FindsThing, ForActing, ForActingLive, HasNoneFrom, IsAlone, IsDeletionOf, IsDeletionRequest, IsInOrder, IsPartOutOfCharge, IsRefusedBy, IsTokenField, IsUnselected, RepresentsState, aid_of, command_form, deletion_judgeable, managed_delete_object};
+ghost use Rattle.std.specs.Prelude.{◌≡◌, ◌↔◌, ◌⊎◌, ◌==◌, ℕ, List, Some, IfNone, IfSome, IsTrue, length, refl, true};
+ghost use Rattle.content_rules.specs.Prelude.{ActsIn, Admitted, DeleteParameters, DeletingFails, FindsThing, ForActing, ForActingLive, HasNoneFrom, IsAlone, IsDeletionOf, IsDeletionRequest, IsInOrder, IsPartOutOfCharge, IsTokenField, IsUnselected, RepresentsState, aid_of, deletion_judgeable, managed_delete_object};
 ghost use Rattle.policy_machine.specs.declared.channels.TheConstants.{CHANNELS};
 ghost use Rattle.policy_machine.specs.declared.delete_object.RuleDO.TheVariants.{DO3, DO4};
 
 use crate::extradition::is_fixed;
 use crate::in_use::{has_stranger, has_user, is_in_use, is_source};
+use crate::parsed_request::ParsedRequest;
 use bertlv::read;
 use card_types::{Aid, Found, Privileges, Tables, find};
-use policy_machine::{Rule, RuleDO, RulePS};
+use policy_machine::{Rule, RuleDO};
 use policy_slots::{Approving, JudgedRequest, Live, Signed, has_charge, holds, may_manage};
 
 /// What a DELETE of an object asks for: the AID of the thing, whether what comes from an Executable Load File goes with it, and what
@@ -146,25 +147,32 @@ fn read_token(field: &[u8]) -> Option<&[u8]>
     Some(token.value)
 }
 
-// What the data field asks for.
-fn read_request(p1: u8, p2: u8, body: &[u8]) -> Option<DeletionRequest<'_>>
-    requires form { DeleteParameters p1 p2 }
-    ensures some { IfSome result (λ request. IsDeletionRequest request p1 p2 body.now) }
-    ensures none { IfNone result ((asked : DeletionAsked) → AsksToDelete body.now asked → ⊥) }
-{
-    let Ok((named, rest)) = read(body) else {
-        return None;
-    };
-    if named.tag != 0x4F {
-        return None;
+impl<'a> ParsedRequest<'a> for DeletionRequest<'a> {
+    ghost form = { managed_delete_object.judged };
+
+    ghost stands_for = { IsDeletionRequest };
+
+    fn takes(p1: u8, p2: u8) -> bool
+        ensures { IsTrue result ↔ DeleteParameters p1 p2 }
+    {
+        p1 == 0x00 && matches!(p2, 0x00 | 0x80)
     }
-    let aid = Aid::new(named.value)?;
-    let token = read_token(rest)?;
-    Some(DeletionRequest {
-        aid,
-        related: p2 == 0x80,
-        signed: Signed::over(p1, p2, &body[..body.len() - rest.len()], token),
-    })
+
+    fn read(p1: u8, p2: u8, body: &'a [u8]) -> Option<Self> {
+        let Ok((named, rest)) = read(body) else {
+            return None;
+        };
+        if named.tag != 0x4F {
+            return None;
+        }
+        let aid = Aid::new(named.value)?;
+        let token = read_token(rest)?;
+        Some(DeletionRequest {
+            aid,
+            related: p2 == 0x80,
+            signed: Signed::over(p1, p2, &body[..body.len() - rest.len()], token),
+        })
+    }
 }
 
 // Whether DELETE of an object takes a P1 and a P2.
@@ -172,19 +180,4 @@ fn takes_parameters(p1: u8, p2: u8) -> bool
     ensures { IsTrue result ↔ DeleteParameters p1 p2 }
 {
     p1 == 0x00 && matches!(p2, 0x00 | 0x80)
-}
-
-/// Reads P1, P2 and the data field of a DELETE of an object.
-pub fn parse_delete_object(p1: u8, p2: u8, body: &[u8]) -> Result<DeletionRequest<'_>, Rule>
-    ensures form { IfOk result (λ request. DeleteParameters p1 p2) }
-    ensures means { IfOk result (λ request. IsDeletionRequest request p1 p2 body.now) }
-    ensures refused { IfErr result (IsRefusedBy (command_form managed_delete_object) p1 p2 body.now) }
-{
-    if !takes_parameters(p1, p2) {
-        return Err(Rule::PS(RulePS::P));
-    }
-    match read_request(p1, p2, body) {
-        Some(request) => Ok(request),
-        None => Err(Rule::PS(RulePS::S)),
-    }
 }

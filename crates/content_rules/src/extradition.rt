@@ -1,15 +1,16 @@
 //! INSTALL [for extradition] (GlobalPlatform Card Specification 2.3.1, 9.4.1 and 11.5).
 
-ghost use Rattle.std.specs.Prelude.{◌≡◌, ◌↔◌, ◌⊎◌, ℕ, List, Some, IfErr, IfNone, IfOk, IfSome, IsTrue, refl, true};
-ghost use Rattle.content_rules.specs.Prelude.{ActsIn, Admitted, AsksToExtradite, ExtraditingFails, ExtraditionParameters, FindsMove, Holds, InstallData, IsExtraditionOf, IsExtraditionRequest, IsInOrder, IsOutOfReach, IsRefusedBy, IsUnapprovable, Represents, aid_of, authorized_management, command_form, delegated_management, extradition_judgeable, is_personalized, managed_extradition};
+ghost use Rattle.std.specs.Prelude.{◌≡◌, ◌↔◌, ◌⊎◌, ℕ, List, Some, IsTrue, refl, true};
+ghost use Rattle.content_rules.specs.Prelude.{ActsIn, Admitted, ExtraditingFails, ExtraditionParameters, FindsMove, Holds, InstallData, IsExtraditionOf, IsExtraditionRequest, IsInOrder, IsOutOfReach, IsUnapprovable, Represents, aid_of, authorized_management, delegated_management, extradition_judgeable, is_personalized, managed_extradition};
 ghost use Rattle.card_types.specs.declared.factory.TheConstants.{FACTORY_FILE, ISSUER};
 ghost use Rattle.card_types.specs.declared.found.Found.TheVariants.{Entry};
 ghost use Rattle.policy_machine.specs.declared.extradition.RuleEX.TheVariants.{EX5, EX7};
 
 use crate::install_application::is_factory_file;
 use crate::install_fields::read_fields;
+use crate::parsed_request::ParsedRequest;
 use card_types::{Aid, Found, Life, LifeMark, Privileges, Tables, find, in_slot};
-use policy_machine::{Rule, RuleEX, RulePS};
+use policy_machine::{Rule, RuleEX};
 use policy_slots::{
     Approving, JudgedRequest, Live, Signed, TOKEN_KEY, domain_of, find_domain, has_charge, holds,
     is_at_or_above, is_issuer, is_over, may_manage, nearest_with_key,
@@ -166,35 +167,28 @@ impl JudgedRequest for ExtraditionRequest<'_> {
     ghost meant = { λ request command is. record { asks = is.asks; parameters = is.parameters; approval = is.approval } };
 }
 
-// What the data field asks for.
-fn read_request(p1: u8, p2: u8, body: &[u8]) -> Option<ExtraditionRequest<'_>>
-    ensures some { IfSome result (λ request. IsExtraditionRequest request p1 p2 body.now) }
-    ensures none { IfNone result ((given : InstallData) → AsksToExtradite body.now given → ⊥) }
-{
-    let fields = read_fields(body)?;
-    if !fields.second.is_empty() || !fields.privileges.is_empty() {
-        return None;
-    }
-    let to = Aid::new(fields.first)?;
-    let aid = Aid::new(fields.third)?;
-    Some(ExtraditionRequest {
-        to,
-        aid,
-        signed: Signed::over(p1, p2, fields.before, fields.token),
-    })
-}
+impl<'a> ParsedRequest<'a> for ExtraditionRequest<'a> {
+    ghost form = { managed_extradition.judged };
 
-/// Reads P1, P2 and the data field of an INSTALL [for extradition].
-pub fn parse_extradition(p1: u8, p2: u8, body: &[u8]) -> Result<ExtraditionRequest<'_>, Rule>
-    ensures form { IfOk result (λ request. ExtraditionParameters p1 p2) }
-    ensures means { IfOk result (λ request. IsExtraditionRequest request p1 p2 body.now) }
-    ensures refused { IfErr result (IsRefusedBy (command_form managed_extradition) p1 p2 body.now) }
-{
-    if p1 != 0x10 || p2 != 0x00 {
-        return Err(Rule::PS(RulePS::P));
+    ghost stands_for = { IsExtraditionRequest };
+
+    fn takes(p1: u8, p2: u8) -> bool
+        ensures { IsTrue result ↔ ExtraditionParameters p1 p2 }
+    {
+        p1 == 0x10 && p2 == 0x00
     }
-    match read_request(p1, p2, body) {
-        Some(request) => Ok(request),
-        None => Err(Rule::PS(RulePS::S)),
+
+    fn read(p1: u8, p2: u8, body: &'a [u8]) -> Option<Self> {
+        let fields = read_fields(body)?;
+        if !fields.second.is_empty() || !fields.privileges.is_empty() {
+            return None;
+        }
+        let to = Aid::new(fields.first)?;
+        let aid = Aid::new(fields.third)?;
+        Some(ExtraditionRequest {
+            to,
+            aid,
+            signed: Signed::over(p1, p2, fields.before, fields.token),
+        })
     }
 }

@@ -1,14 +1,15 @@
 //! INSTALL [for install] (GlobalPlatform Card Specification 2.3.1, 9.3.2 and 11.5).
 
-ghost use Rattle.std.specs.Prelude.{◌≡◌, ◌↔◌, ◌≢◌, ◌⊎◌, ◌&&◌, ℕ, List, None, Some, IfErr, IfNone, IfOk, IfSome, IsTrue, refl, true};
+ghost use Rattle.std.specs.Prelude.{◌≡◌, ◌↔◌, ◌≢◌, ◌⊎◌, ◌&&◌, ℕ, List, None, Some, IfNone, IfSome, IsTrue, refl, true};
 ghost use Rattle.std.specs.List.{list_any};
-ghost use Rattle.content_rules.specs.Prelude.{ActsIn, Admitted, AreElements, AreInstallParameters, AsksToInstall, Element, Entry, FindsSource, InstallAsked, InstallParameters, IsInOrder, IsInstallOf, IsInstallRequest, IsLoadNamed, IsOutOfCharge, IsRefusedBy, IsTakenAid, MayBeMade, Registry, Represents, Well, aid_of, authorized_management, command_form, delegated_management, exceeds_by, file_named, has, held, install_judgeable, is_loaded_as, managed_install, same_aid};
+ghost use Rattle.content_rules.specs.Prelude.{ActsIn, Admitted, AreElements, AreInstallParameters, Element, Entry, FindsSource, InstallParameters, IsInOrder, IsInstallOf, IsInstallRequest, IsLoadNamed, IsOutOfCharge, IsTakenAid, MayBeMade, Registry, Represents, Well, aid_of, authorized_management, delegated_management, exceeds_by, file_named, has, held, install_judgeable, is_loaded_as, managed_install, same_aid};
 ghost use Rattle.card_types.specs.Well.{has_domain_privilege as has_domain_privilege_by};
 ghost use Rattle.card_types.specs.declared.factory.TheConstants.{FACTORY_FILE, FACTORY_MODULE};
 ghost use Rattle.card_types.specs.declared.found.Found.{Found as Thing};
 ghost use Rattle.card_types.specs.declared.found.Found.TheVariants.{File};
 
 use crate::install_fields::read_fields;
+use crate::parsed_request::ParsedRequest;
 use bertlv::read;
 use bitflags::Flags;
 use card_types::{
@@ -16,7 +17,7 @@ use card_types::{
     in_slot,
 };
 use domain_tree::above;
-use policy_machine::{Rule, RuleII, RulePS};
+use policy_machine::{Rule, RuleII};
 use policy_slots::{
     Approving, JudgedRequest, Live, Signed, has_tag, holds, is_in_charge, may_manage,
 };
@@ -57,48 +58,34 @@ fn are_parameters(bytes: &[u8]) -> bool
     are_elements(bytes) && has_tag(bytes, APPLICATION_PARAMETERS)
 }
 
-// Whether INSTALL [for install] takes a P1 and a P2.
-fn takes_parameters(p1: u8, p2: u8) -> bool
-    ensures { IsTrue result ↔ InstallParameters p1 p2 }
-{
-    matches!(p1, 0x04 | 0x0C) && p2 == 0x00
-}
+impl<'a> ParsedRequest<'a> for InstallRequest<'a> {
+    ghost form = { managed_install.judged };
 
-// What the data field asks for.
-fn read_request(p1: u8, p2: u8, body: &[u8]) -> Option<InstallRequest<'_>>
-    ensures some { IfSome result (λ request. IsInstallRequest request p1 p2 body.now) }
-    ensures none { IfNone result ((asked : InstallAsked) → AsksToInstall body.now asked → ⊥) }
-{
-    let fields = read_fields(body)?;
-    let file = Aid::new(fields.first)?;
-    let module = Aid::new(fields.second)?;
-    let aid = Aid::new(fields.third)?;
-    let privileges = Privileges::from_bytes(fields.privileges)?;
-    if !are_parameters(fields.parameters) {
-        return None;
-    }
-    Some(InstallRequest {
-        selectable: p1 == 0x0C,
-        file,
-        module,
-        aid,
-        privileges,
-        signed: Signed::over(p1, p2, fields.before, fields.token),
-    })
-}
+    ghost stands_for = { IsInstallRequest };
 
-/// Reads P1, P2 and the data field of an INSTALL [for install].
-pub fn parse_application(p1: u8, p2: u8, body: &[u8]) -> Result<InstallRequest<'_>, Rule>
-    ensures form { IfOk result (λ request. InstallParameters p1 p2) }
-    ensures means { IfOk result (λ request. IsInstallRequest request p1 p2 body.now) }
-    ensures refused { IfErr result (IsRefusedBy (command_form managed_install) p1 p2 body.now) }
-{
-    if !takes_parameters(p1, p2) {
-        return Err(Rule::PS(RulePS::P));
+    fn takes(p1: u8, p2: u8) -> bool
+        ensures { IsTrue result ↔ InstallParameters p1 p2 }
+    {
+        matches!(p1, 0x04 | 0x0C) && p2 == 0x00
     }
-    match read_request(p1, p2, body) {
-        Some(request) => Ok(request),
-        None => Err(Rule::PS(RulePS::S)),
+
+    fn read(p1: u8, p2: u8, body: &'a [u8]) -> Option<Self> {
+        let fields = read_fields(body)?;
+        let file = Aid::new(fields.first)?;
+        let module = Aid::new(fields.second)?;
+        let aid = Aid::new(fields.third)?;
+        let privileges = Privileges::from_bytes(fields.privileges)?;
+        if !are_parameters(fields.parameters) {
+            return None;
+        }
+        Some(InstallRequest {
+            selectable: p1 == 0x0C,
+            file,
+            module,
+            aid,
+            privileges,
+            signed: Signed::over(p1, p2, fields.before, fields.token),
+        })
     }
 }
 

@@ -1,8 +1,8 @@
 //! The data field of INSTALL (GlobalPlatform Card Specification 2.3.1, 11.5.2.3): six fields, each after its length.
 
-ghost use Rattle.std.specs.Prelude.{◌≡◌, ◌≤◌, ◌++◌, ℕ, List, IfNone, IfSome, length};
+ghost use Rattle.std.specs.Prelude.{◌≡◌, ◌≤◌, ◌++◌, ◌∷◌, [], ℕ, List, IfNone, IfSome, length};
 ghost use Rattle.std.specs.List.{flat_map};
-ghost use Rattle.content_rules.specs.Prelude.{BeginsWithField, InstallData, IsInstallData, given_of, signed_fields, with_length};
+ghost use Rattle.content_rules.specs.Prelude.{AreLengthFields, BeginsWithField, InstallData, IsInstallData, first_four, given_of, signed_fields, with_length};
 
 /// The six fields of an INSTALL, and the bytes before the token and its length, which the token signs.
 #[derive(Clone, Copy, Debug)]
@@ -16,11 +16,22 @@ pub struct InstallFields<'a> {
     pub before: &'a [u8],
 }
 
+/// Five fields, each after its length: the last is the token. `end` are the bytes from the length of the token on.
+#[derive(Clone, Copy, Debug)]
+pub(crate) struct FiveFields<'a> {
+    pub(crate) first: &'a [u8],
+    pub(crate) second: &'a [u8],
+    pub(crate) third: &'a [u8],
+    pub(crate) fourth: &'a [u8],
+    pub(crate) token: &'a [u8],
+    pub(crate) end: &'a [u8],
+}
+
 /// The highest length of a field, in bytes.
 const LONGEST: usize = 0x7F;
 
 // The field that the bytes begin with, and the bytes after it.
-pub(crate) fn read_field(bytes: &[u8]) -> Option<(&[u8], &[u8])>
+fn read_field(bytes: &[u8]) -> Option<(&[u8], &[u8])>
     ensures some { IfSome result (λ read. BeginsWithField read.0.now bytes.now read.1.now) }
     ensures none { IfNone result ((field rest : List ℕ) → BeginsWithField field bytes.now rest → ⊥) }
 {
@@ -44,6 +55,31 @@ pub(crate) fn front<'a>(bytes: &'a [u8], behind: &[u8]) -> &'a [u8]
     &bytes[..bytes.len() - behind.len()]
 }
 
+// The five fields that bytes are, or none where they are not five.
+pub(crate) fn read_five(bytes: &[u8]) -> Option<FiveFields<'_>>
+    ensures some { IfSome result (λ fields. AreLengthFields (first_four fields ++ fields.token.now ∷ []) bytes.now) }
+    ensures before { IfSome result (λ fields. bytes.now ≡ flat_map with_length (first_four fields) ++ fields.end.now) }
+    ensures short { IfSome result (λ fields. length fields.end.now ≤ length bytes.now) }
+    ensures none { IfNone result ((fields : List (List ℕ)) → length fields ≡ 5 → AreLengthFields fields bytes.now → ⊥) }
+{
+    let (first, rest) = read_field(bytes)?;
+    let (second, rest) = read_field(rest)?;
+    let (third, rest) = read_field(rest)?;
+    let (fourth, end) = read_field(rest)?;
+    let (token, rest) = read_field(end)?;
+    if !rest.is_empty() {
+        return None;
+    }
+    Some(FiveFields {
+        first,
+        second,
+        third,
+        fourth,
+        token,
+        end,
+    })
+}
+
 /// The fields of the data field of an INSTALL, or none where it is not six such fields.
 pub(crate) fn read_fields(body: &[u8]) -> Option<InstallFields<'_>>
     ensures some { IfSome result (λ fields. IsInstallData (given_of fields) body.now) }
@@ -52,21 +88,14 @@ pub(crate) fn read_fields(body: &[u8]) -> Option<InstallFields<'_>>
     ensures none { IfNone result ((given : InstallData) → IsInstallData given body.now → ⊥) }
 {
     let (first, rest) = read_field(body)?;
-    let (second, rest) = read_field(rest)?;
-    let (third, rest) = read_field(rest)?;
-    let (privileges, rest) = read_field(rest)?;
-    let (parameters, last) = read_field(rest)?;
-    let (token, rest) = read_field(last)?;
-    if !rest.is_empty() {
-        return None;
-    }
+    let fields = read_five(rest)?;
     Some(InstallFields {
         first,
-        second,
-        third,
-        privileges,
-        parameters,
-        token,
-        before: front(body, last),
+        second: fields.first,
+        third: fields.second,
+        privileges: fields.third,
+        parameters: fields.fourth,
+        token: fields.token,
+        before: front(body, fields.end),
     })
 }

@@ -1,14 +1,14 @@
 //! INSTALL [for load] (GlobalPlatform Card Specification 2.3.1, 9.3.1 and 11.5).
 
-ghost use Rattle.std.specs.Prelude.{◌≡◌, ◌↔◌, ◌≤◌, ◌⊎◌, ℕ, List, [], Some, false, IfErr, IfNone, IfOk, IfSome, IsTrue, length, refl};
-ghost use Rattle.std.specs.List.{flat_map};
-ghost use Rattle.content_rules.specs.Prelude.{ActsIn, Admitted, AsksToLoad, FindsDomain, InstallLoadParameters, InstallingLoadFails, IsAid, IsHashLength, IsInOrder, IsLoadData, IsLoadInstallOf, IsLoadInstallRequest, IsLoadNamed, IsRefusedBy, LoadData, NamesDomain, aid_of, file_domain_for, install_load, judged_install_load, load_data_of, load_install_judgeable, signed_load_fields, with_length};
+ghost use Rattle.std.specs.Prelude.{◌≡◌, ◌↔◌, ◌⊎◌, ℕ, List, [], Some, false, IfNone, IfSome, IsTrue, length, refl};
+ghost use Rattle.content_rules.specs.Prelude.{ActsIn, Admitted, FindsDomain, InstallLoadParameters, InstallingLoadFails, IsAid, IsHashLength, IsInOrder, IsLoadInstallOf, IsLoadInstallRequest, IsLoadNamed, LoadData, NamesDomain, aid_of, file_domain_for, judged_install_load, load_install_judgeable};
 ghost use Rattle.card_types.specs.declared.found.Found.TheVariants.{Entry};
 ghost use Rattle.policy_machine.specs.declared.install_load.RuleIL.TheVariants.{IL4, IL6};
 
-use crate::install_fields::{front, read_field};
+use crate::install_fields::{front, read_five};
+use crate::parsed_request::ParsedRequest;
 use card_types::{Aid, Privileges, Tables, find, first_free};
-use policy_machine::{Rule, RuleIL, RulePS};
+use policy_machine::{Rule, RuleIL};
 use policy_slots::{
     Approving, JudgedRequest, Live, Signed, find_domain, holds, is_at_or_above, may_manage,
 };
@@ -23,42 +23,6 @@ pub struct LoadInstallRequest<'a> {
     pub signed: Signed<'a>,
 }
 
-/// The five fields of an INSTALL [for load], and the bytes before the token and its length, which the token signs.
-#[derive(Clone, Copy, Debug)]
-struct LoadFields<'a> {
-    file: &'a [u8],
-    domain: &'a [u8],
-    hash: &'a [u8],
-    parameters: &'a [u8],
-    token: &'a [u8],
-    before: &'a [u8],
-}
-
-// The fields of the data field of an INSTALL [for load], or none where it is not five such fields.
-fn read_fields(body: &[u8]) -> Option<LoadFields<'_>>
-    ensures some { IfSome result (λ fields. IsLoadData (load_data_of fields) body.now) }
-    ensures before { IfSome result (λ fields. fields.before.now ≡ flat_map with_length (signed_load_fields (load_data_of fields))) }
-    ensures short { IfSome result (λ fields. length fields.before.now ≤ length body.now) }
-    ensures none { IfNone result ((given : LoadData) → IsLoadData given body.now → ⊥) }
-{
-    let (file, rest) = read_field(body)?;
-    let (domain, rest) = read_field(rest)?;
-    let (hash, rest) = read_field(rest)?;
-    let (parameters, last) = read_field(rest)?;
-    let (token, rest) = read_field(last)?;
-    if !rest.is_empty() {
-        return None;
-    }
-    Some(LoadFields {
-        file,
-        domain,
-        hash,
-        parameters,
-        token,
-        before: front(body, last),
-    })
-}
-
 // The AID of the security domain, or none where the field is empty and names none.
 fn read_domain(field: &[u8]) -> Option<Option<Aid>>
     ensures some { IfSome result (λ named. NamesDomain named field.now) }
@@ -71,34 +35,27 @@ fn read_domain(field: &[u8]) -> Option<Option<Aid>>
     Some(Some(aid))
 }
 
-// What the data field asks for.
-fn read_request(p1: u8, p2: u8, body: &[u8]) -> Option<LoadInstallRequest<'_>>
-    ensures some { IfSome result (λ request. IsLoadInstallRequest request p1 p2 body.now) }
-    ensures none { IfNone result ((given : LoadData) → AsksToLoad body.now given → ⊥) }
-{
-    let fields = read_fields(body)?;
-    let file = Aid::new(fields.file)?;
-    let domain = read_domain(fields.domain)?;
-    Some(LoadInstallRequest {
-        file,
-        domain,
-        hash: fields.hash,
-        signed: Signed::over(p1, p2, fields.before, fields.token),
-    })
-}
+impl<'a> ParsedRequest<'a> for LoadInstallRequest<'a> {
+    ghost form = { judged_install_load };
 
-/// Reads P1, P2 and the data field of an INSTALL [for load].
-pub fn parse_load_install(p1: u8, p2: u8, body: &[u8]) -> Result<LoadInstallRequest<'_>, Rule>
-    ensures form { IfOk result (λ request. InstallLoadParameters p1 p2) }
-    ensures means { IfOk result (λ request. IsLoadInstallRequest request p1 p2 body.now) }
-    ensures refused { IfErr result (IsRefusedBy install_load p1 p2 body.now) }
-{
-    if p1 != 0x02 || p2 != 0x00 {
-        return Err(Rule::PS(RulePS::P));
+    ghost stands_for = { IsLoadInstallRequest };
+
+    fn takes(p1: u8, p2: u8) -> bool
+        ensures { IsTrue result ↔ InstallLoadParameters p1 p2 }
+    {
+        p1 == 0x02 && p2 == 0x00
     }
-    match read_request(p1, p2, body) {
-        Some(request) => Ok(request),
-        None => Err(Rule::PS(RulePS::S)),
+
+    fn read(p1: u8, p2: u8, body: &'a [u8]) -> Option<Self> {
+        let fields = read_five(body)?;
+        let file = Aid::new(fields.first)?;
+        let domain = read_domain(fields.second)?;
+        Some(LoadInstallRequest {
+            file,
+            domain,
+            hash: fields.third,
+            signed: Signed::over(p1, p2, front(body, fields.end), fields.token),
+        })
     }
 }
 

@@ -10,11 +10,13 @@ mod install_fields;
 mod install_load;
 mod load;
 mod make_selectable;
+mod parsed_request;
 
-pub use delete_object::{DeletionRequest, parse_delete_object};
-pub use extradition::{Extradition, ExtraditionRequest, parse_extradition};
-pub use install_application::{InstallRequest, parse_application};
+pub use delete_object::DeletionRequest;
+pub use extradition::{Extradition, ExtraditionRequest};
+pub use install_application::InstallRequest;
 pub use install_fields::InstallFields;
-pub use install_load::{LoadInstallRequest, parse_load_install};
+pub use install_load::LoadInstallRequest;
 pub use load::{LoadRequest, judge_load, judge_loaded, judge_loaded_by, parse_load};
-pub use make_selectable::{SelectableRequest, parse_selectable};
+pub use make_selectable::SelectableRequest;
+pub use parsed_request::{ParsedRequest, parse_request};

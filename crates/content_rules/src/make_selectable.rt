@@ -1,12 +1,13 @@
 //! INSTALL [for make selectable] (GlobalPlatform Card Specification 2.3.1, 9.3.3 and 11.5).
 
-ghost use Rattle.std.specs.Prelude.{◌≡◌, ◌↔◌, ◌≢◌, IfErr, IfNone, IfOk, IfSome, IsTrue, MatchOption, Option, refl, true};
-ghost use Rattle.content_rules.specs.Prelude.{AreGiven, AsksToMakeSelectable, InstallData, IsInstalledWith, IsRefusedBy, IsSelectableOf, IsSelectableRequest, MakeSelectableParameters, command_form, held, is_installed, managed_selectable, selectable_judgeable};
+ghost use Rattle.std.specs.Prelude.{◌≡◌, ◌↔◌, ◌≢◌, IfNone, IfSome, IsTrue, MatchOption, Option, refl, true};
+ghost use Rattle.content_rules.specs.Prelude.{AreGiven, IsInstalledWith, IsSelectableOf, IsSelectableRequest, MakeSelectableParameters, held, is_installed, managed_selectable, selectable_judgeable};
 
 use crate::install_fields::read_fields;
+use crate::parsed_request::ParsedRequest;
 use card_types::{Aid, Life, LifeMark, Privileges, Tables, in_slot};
 use domain_tree::above;
-use policy_machine::{Rule, RuleMS, RulePS};
+use policy_machine::{Rule, RuleMS};
 use policy_slots::{Approving, JudgedRequest, Live, Signed, find_entry, may_manage};
 
 /// What an INSTALL [for make selectable] asks for: the AID of the application, the privileges that it is to have or none, and
@@ -101,35 +102,28 @@ fn read_privileges(bytes: &[u8]) -> Option<Option<Privileges>>
     Some(Some(privileges))
 }
 
-// What the data field asks for.
-fn read_request(p1: u8, p2: u8, body: &[u8]) -> Option<SelectableRequest<'_>>
-    ensures some { IfSome result (λ request. IsSelectableRequest request p1 p2 body.now) }
-    ensures none { IfNone result ((given : InstallData) → AsksToMakeSelectable body.now given → ⊥) }
-{
-    let fields = read_fields(body)?;
-    if !fields.first.is_empty() || !fields.second.is_empty() {
-        return None;
-    }
-    let aid = Aid::new(fields.third)?;
-    let privileges = read_privileges(fields.privileges)?;
-    Some(SelectableRequest {
-        aid,
-        privileges,
-        signed: Signed::over(p1, p2, fields.before, fields.token),
-    })
-}
+impl<'a> ParsedRequest<'a> for SelectableRequest<'a> {
+    ghost form = { managed_selectable.judged };
 
-/// Reads P1, P2 and the data field of an INSTALL [for make selectable].
-pub fn parse_selectable(p1: u8, p2: u8, body: &[u8]) -> Result<SelectableRequest<'_>, Rule>
-    ensures form { IfOk result (λ request. MakeSelectableParameters p1 p2) }
-    ensures means { IfOk result (λ request. IsSelectableRequest request p1 p2 body.now) }
-    ensures refused { IfErr result (IsRefusedBy (command_form managed_selectable) p1 p2 body.now) }
-{
-    if p1 != 0x08 || p2 != 0x00 {
-        return Err(Rule::PS(RulePS::P));
+    ghost stands_for = { IsSelectableRequest };
+
+    fn takes(p1: u8, p2: u8) -> bool
+        ensures { IsTrue result ↔ MakeSelectableParameters p1 p2 }
+    {
+        p1 == 0x08 && p2 == 0x00
     }
-    match read_request(p1, p2, body) {
-        Some(request) => Ok(request),
-        None => Err(Rule::PS(RulePS::S)),
+
+    fn read(p1: u8, p2: u8, body: &'a [u8]) -> Option<Self> {
+        let fields = read_fields(body)?;
+        if !fields.first.is_empty() || !fields.second.is_empty() {
+            return None;
+        }
+        let aid = Aid::new(fields.third)?;
+        let privileges = read_privileges(fields.privileges)?;
+        Some(SelectableRequest {
+            aid,
+            privileges,
+            signed: Signed::over(p1, p2, fields.before, fields.token),
+        })
     }
 }

@@ -2,14 +2,7 @@
 use Rattle.std.proofs.Common.{◌≡◌, ℕ, List, [], ◌∷◌, Option, None, Some, refl, sym, ap, subst, ◌∙◌}
 use Rattle.std.proofs.Math.ListN.{get_or-map}
 use Rattle.std.specs.Prelude.{slice_index_or}
-use Rattle.card_types.specs.Registry.{Registry}
-use Rattle.policy_machine.specs.Admission.{Admitted}
-use Rattle.policy_machine.specs.CommandForm.{CommandForm}
-use Rattle.policy_machine.specs.Delegation.{Approval, ReceiptFails, TokenFails}
-use Rattle.policy_machine.specs.GetStatus.{place_before}
-use Rattle.policy_machine.specs.Management.{ManagementFails, acting}
-use Rattle.policy_machine.specs.OwnRules.{AreAlike, selection_of, selections}
-use Rattle.policy_machine.specs.State.{State, Channel, LoadSession, Nothing, Place, Volatile, channel_at, selected_of, selected_on}
+use Rattle.policy_machine.specs.Prelude.{Admitted, Approval, AreAlike, Channel, CommandForm, LoadSession, ManagementFails, Nothing, Place, ReceiptFails, Registry, State, TokenFails, Volatile, acting, channel_at, place_before, selected_of, selected_on, selection_of, selections}
 use Rattle.policy_machine.specs.declared.delegation.RuleRC.{RuleRC}
 use Rattle.policy_machine.specs.declared.delegation.RuleRC.TheVariants.{RC1}
 use Rattle.policy_machine.specs.declared.delegation.RuleTK.{RuleTK}

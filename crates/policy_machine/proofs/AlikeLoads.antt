@@ -1,11 +1,6 @@
 -- LOAD: its rules fail of both of two commands that are alike, or of neither.
 use Rattle.std.proofs.Common.{◌≡◌, ◌≢◌, inl, inr, sym, ◌∙◌}
-use Rattle.policy_machine.specs.Admission.{Admitted}
-use Rattle.policy_machine.specs.Charge.{IsAtOrAbove}
-use Rattle.policy_machine.specs.Load.{InLoad, IsLoadOn, LoadingFails, block_of, loading}
-use Rattle.policy_machine.specs.LoadBlocks.{HasNoLength, HasNoRoom, HasOtherCount, HasOtherHash}
-use Rattle.policy_machine.specs.Management.{acting}
-use Rattle.policy_machine.specs.State.{LoadSession}
+use Rattle.policy_machine.specs.Prelude.{Admitted, HasNoLength, HasNoRoom, HasOtherCount, HasOtherHash, InLoad, IsAtOrAbove, IsLoadOn, LoadSession, LoadingFails, acting, block_of, loading}
 use Rattle.policy_machine.specs.declared.load.RuleLO.{RuleLO}
 use Rattle.policy_machine.specs.declared.load.RuleLO.TheVariants.{LO1, LO2, LO3, LO4, LO5, LO6, LO7, LO8}
 use Rattle.policy_machine.specs.declared.rule.Rule.TheVariants.{LO, M}

@@ -1,21 +1,7 @@
 -- The forms of card content management: their rules fail of both of two commands that are alike, or of neither.
 use Rattle.std.proofs.Common.{◌≡◌, ◌⊎◌, ℕ, List, Option, None, Some, inl, inr, subst}
 use Rattle.std.specs.Prelude.{MatchOption}
-use Rattle.card_types.specs.Privileges.{delegated_management}
-use Rattle.policy_machine.specs.Admission.{Admitted}
-use Rattle.policy_machine.specs.CardStatus.{managed_card_status}
-use Rattle.policy_machine.specs.Delegation.{Holds}
-use Rattle.policy_machine.specs.DeleteKey.{managed_delete_key}
-use Rattle.policy_machine.specs.DeleteObject.{ComesFrom, DeletingFails, DeletionAsked, HasOthers, IsDelegated, IsInUse, IsLoadedInto, IsToGo, managed_delete_object}
-use Rattle.policy_machine.specs.EntryStatus.{PersonalizesItself, SettingStatusFails, managed_entry_status}
-use Rattle.policy_machine.specs.Extradition.{managed_extradition}
-use Rattle.policy_machine.specs.InstallApplication.{managed_install}
-use Rattle.policy_machine.specs.InstallLoad.{install_load, judged_install_load}
-use Rattle.policy_machine.specs.MakeSelectable.{managed_selectable}
-use Rattle.policy_machine.specs.ManagedForm.{AskedFails, CommandAsks, JudgedFails, JudgedForm, command_form}
-use Rattle.policy_machine.specs.OwnRules.{selection_of}
-use Rattle.policy_machine.specs.StoreData.{managed_store_data}
-use Rattle.policy_machine.specs.State.{Channel, channel_at}
+use Rattle.policy_machine.specs.Prelude.{Admitted, AskedFails, Channel, ComesFrom, CommandAsks, DeletingFails, DeletionAsked, HasOthers, Holds, IsDelegated, IsInUse, IsLoadedInto, IsToGo, JudgedFails, JudgedForm, PersonalizesItself, SettingStatusFails, channel_at, command_form, delegated_management, install_load, judged_install_load, managed_card_status, managed_delete_key, managed_delete_object, managed_entry_status, managed_extradition, managed_install, managed_selectable, managed_store_data, selection_of}
 use Rattle.policy_machine.specs.declared.card_status.RuleSC.TheVariants.{SC1}
 use Rattle.policy_machine.specs.declared.delete_key.RuleDK.TheVariants.{DK1}
 use Rattle.policy_machine.specs.declared.delete_object.RuleDO.{RuleDO}

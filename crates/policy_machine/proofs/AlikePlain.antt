@@ -3,13 +3,7 @@ use Rattle.std.proofs.Common.{◌≡◌, ◌+◌, List, [], ◌∷◌, Option, N
 use Rattle.std.proofs.lemmas.List.{length-map}
 use Rattle.std.specs.List.{position_or_len}
 use Rattle.std.specs.Prelude.{cond, is_none, map, nat_lt, not, position}
-use Rattle.policy_machine.specs.GetData.{GetDataFails, get_data}
-use Rattle.policy_machine.specs.GetStatus.{ListingFails, get_status}
-use Rattle.policy_machine.specs.InitializeUpdate.{InitializeUpdateFails, initialize_update}
-use Rattle.policy_machine.specs.ManageChannel.{is_closed, lowest_closed, manage_channel}
-use Rattle.policy_machine.specs.OwnRules.{selection_of}
-use Rattle.policy_machine.specs.Select.{SelectFails, select}
-use Rattle.policy_machine.specs.State.{Channel}
+use Rattle.policy_machine.specs.Prelude.{Channel, GetDataFails, InitializeUpdateFails, ListingFails, SelectFails, get_data, get_status, initialize_update, is_closed, lowest_closed, manage_channel, select, selection_of}
 use Rattle.policy_machine.specs.declared.get_data.RuleGD.TheVariants.{GD1}
 use Rattle.policy_machine.specs.declared.get_status.RuleGS.TheVariants.{GS1}
 use Rattle.policy_machine.specs.declared.initialize_update.RuleIU.TheVariants.{IU1}

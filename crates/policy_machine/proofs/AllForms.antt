@@ -1,9 +1,6 @@
 -- The one place where all commands are gone through: what is shown of each form, and that one form at most takes a command.
 use Rattle.std.proofs.Common.{ℕ, Bool, true, false, List, [], ◌∷◌, inl, inr, refl}
-use Rattle.policy_machine.specs.Classes.{changing, managing}
-use Rattle.policy_machine.specs.CommandForm.{CommandForm}
-use Rattle.policy_machine.specs.Commands.{AtMostOne, Takes, forms_of, listed}
-use Rattle.policy_machine.specs.Laws.{OneForm}
+use Rattle.policy_machine.specs.Prelude.{AtMostOne, CommandForm, OneForm, Takes, changing, forms_of, get_status, install_load, listed, loading, managing}
 use Rattle.policy_machine.proofs.AlikeLoads.{load_alike}
 use Rattle.policy_machine.proofs.AlikeManaged.{card_status_alike, delete_key_alike, deletion_alike, entry_status_alike, extradition_alike, install_alike, install_load_alike, selectable_alike, store_data_alike}
 use Rattle.policy_machine.proofs.AlikePlain.{get_data_alike, get_status_alike, initialize_update_alike, manage_channel_alike, select_alike}
@@ -43,9 +40,6 @@ use Rattle.policy_machine.proofs.SelectLaws.{select_lawful}
 use Rattle.policy_machine.proofs.SetStatusForms.{status_forms_apart}
 use Rattle.policy_machine.proofs.StoreDataLaws.{managed_store_data_lawful}
 use Rattle.policy_machine.proofs.StoreDataSpares.{store_data_sparing}
-use Rattle.policy_machine.specs.GetStatus.{get_status}
-use Rattle.policy_machine.specs.InstallLoad.{install_load}
-use Rattle.policy_machine.specs.Load.{loading}
 
 -- it holds of all of these forms
 abbrev pub AllOf : (CommandForm → Type 0) → List CommandForm → Type 0

@@ -4,20 +4,10 @@ use Rattle.std.specs.Prelude.{MatchOption}
 use Rattle.std.proofs.lemmas.List.Elements.{All-contains}
 use Rattle.card_types.proofs.LeastOfList.{found_fits}
 use Rattle.card_types.proofs.LifeChanges.{receipts_keep}
-use Rattle.card_types.specs.Aid.{same_aid}
-use Rattle.card_types.specs.ChangeLaws.{IsOfCard}
-use Rattle.card_types.specs.Registry.{Entry, Registry, entry_named}
-use Rattle.card_types.specs.RegistryChange.{with_receipts}
-use Rattle.card_types.specs.Well.{IsWellEntry, Well}
+use Rattle.policy_machine.specs.Prelude.{Admitted, Effect, Entry, Fits, IsAnswered, IsConfirmed, IsOfCard, IsWellEntry, ReceiptFails, Registry, Volatile, Well, acting, entry_named, receipt, same_aid, unique_data, with_receipts}
 use Rattle.card_types.specs.declared.limits.TheConstants.{RECEIPT_LIMIT}
-use Rattle.tokens_receipts.specs.Receipt.{receipt}
 use Rattle.policy_machine.proofs.Approved.{one_holder}
 use Rattle.policy_machine.proofs.ChangedFits.{changed_fits}
-use Rattle.policy_machine.specs.Admission.{Admitted}
-use Rattle.policy_machine.specs.Delegation.{IsAnswered, IsConfirmed, ReceiptFails, unique_data}
-use Rattle.policy_machine.specs.Management.{acting}
-use Rattle.policy_machine.specs.Sound.{Fits}
-use Rattle.policy_machine.specs.State.{Effect, Volatile}
 use Rattle.policy_machine.specs.declared.delegation.RuleRC.TheVariants.{RC1}
 
 -- there is room for another number

@@ -5,17 +5,8 @@ use Rattle.card_types.proofs.LeastOfList.{found_fits}
 use Rattle.card_types.proofs.MappedEntries.{find_mapped}
 use Rattle.card_types.proofs.NamedThings.{aid_cases, aid_differs}
 use Rattle.card_types.proofs.SameAid.{same_aid_decides}
-use Rattle.card_types.specs.Aid.{same_aid}
-use Rattle.card_types.specs.Privileges.{receipt_generation}
-use Rattle.card_types.specs.Registry.{Entry, Key, Registry, entry_named}
-use Rattle.card_types.specs.RegistryChange.{with_receipts}
+use Rattle.policy_machine.specs.Prelude.{Admitted, Effect, Entry, IsAnswered, IsConfirmed, IsReceipter, Key, Registry, acting, entry_named, number_of, receipt, receipt_generation, same_aid, unique_data, with_receipts}
 use Rattle.std.proofs.lemmas.Bool.{cond_both}
-use Rattle.tokens_receipts.specs.Receipt.{receipt}
-use Rattle.policy_machine.specs.Admission.{Admitted}
-use Rattle.policy_machine.specs.Delegation.{IsAnswered, IsConfirmed, IsReceipter, unique_data}
-use Rattle.policy_machine.specs.Management.{acting}
-use Rattle.policy_machine.specs.Receipts.{number_of}
-use Rattle.policy_machine.specs.State.{Effect}
 use Rattle.policy_machine.proofs.Approved.{one_holder}
 use Rattle.policy_machine.proofs.Lawful.{some_same}
 use Rattle.policy_machine.proofs.NumbersKept.{KeepsNumbers, receipts_in}

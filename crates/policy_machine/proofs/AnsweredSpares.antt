@@ -1,13 +1,7 @@
 -- A receipt changes nothing in the tree of a domain that the acting one has no power over: who makes it is above the acting domain.
 use Rattle.std.proofs.Common.{◌≡◌, inl, inr, ℕ, ◌+◌, false, List, refl, sym, subst}
 use Rattle.card_types.proofs.NamedThings.{aid_differs}
-use Rattle.card_types.specs.Aid.{same_aid}
-use Rattle.card_types.specs.Registry.{Registry}
-use Rattle.card_types.specs.RegistryChange.{with_receipts}
-use Rattle.policy_machine.specs.Admission.{Admitted}
-use Rattle.policy_machine.specs.Charge.{IsAtOrAbove}
-use Rattle.policy_machine.specs.Delegation.{IsAnswered, IsConfirmed}
-use Rattle.policy_machine.specs.State.{Effect}
+use Rattle.policy_machine.specs.Prelude.{Admitted, Effect, IsAnswered, IsAtOrAbove, IsConfirmed, Registry, same_aid, with_receipts}
 use Rattle.policy_machine.proofs.TreeKept.{KeepsTree, SparesTree}
 use Rattle.policy_machine.proofs.TreesAlike.{LeavesTree, entries_leave}
 

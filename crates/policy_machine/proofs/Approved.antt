@@ -1,12 +1,7 @@
 -- Which rule on the approval of a delegated command fails first.
 use Rattle.std.proofs.Common.{◌≡◌, ◌≢◌, inl, inr, List, None, Some, ℕ, length, refl, ap, sym, ◌∙◌}
-use Rattle.card_types.specs.Registry.{Key, Registry, domain_of, key_named}
+use Rattle.policy_machine.specs.Prelude.{Admitted, Approval, IsFirst, IsNearestHolder, IsVerifier, Key, NoVerifier, ReceiptFails, Registry, TokenFails, acting, domain_of, has_with_key, key_named, token, token_rules}
 use Rattle.domain_tree.proofs.Paths.{one_first_above}
-use Rattle.tokens_receipts.specs.Token.{token}
-use Rattle.policy_machine.specs.Admission.{Admitted}
-use Rattle.policy_machine.specs.Delegation.{Approval, IsNearestHolder, IsVerifier, NoVerifier, ReceiptFails, TokenFails, has_with_key, token_rules}
-use Rattle.policy_machine.specs.Refusal.{IsFirst}
-use Rattle.policy_machine.specs.Management.{acting}
 use Rattle.policy_machine.specs.declared.delegation.RuleRC.{RuleRC}
 use Rattle.policy_machine.specs.declared.delegation.RuleRC.TheVariants.{RC1}
 use Rattle.policy_machine.specs.declared.delegation.RuleTK.TheVariants.{TK2, TK3}

@@ -2,10 +2,8 @@
 use Rattle.std.proofs.Common.{refl, ap, sym, ◌∙◌}
 use Rattle.card_types.proofs.LifeChanges.{card_life_keeps}
 use Rattle.card_types.proofs.OneOfCode.{card_life_by_code}
-use Rattle.card_types.specs.RegistryChange.{with_card_life}
+use Rattle.policy_machine.specs.Prelude.{IsJudgeable, managed_card_status, with_card_life}
 use Rattle.policy_machine.proofs.SameThings.{same_fits}
-use Rattle.policy_machine.specs.CardStatus.{managed_card_status}
-use Rattle.policy_machine.specs.ManagedForm.{IsJudgeable}
 use Rattle.policy_machine.proofs.ManagedLawful.{IsManagedLawful, KeepsCard, LeavesOne, may_follow, undelegated}
 use Rattle.policy_machine.proofs.Lawful.{sound_of_card}
 

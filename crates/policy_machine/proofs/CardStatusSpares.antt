@@ -1,8 +1,6 @@
 -- SET STATUS of the card spares the tree of each domain.
 use Rattle.std.proofs.Common.{refl, sym, subst}
-use Rattle.card_types.specs.Registry.{Registry}
-use Rattle.card_types.specs.RegistryChange.{with_card_life}
-use Rattle.policy_machine.specs.CardStatus.{managed_card_status}
+use Rattle.policy_machine.specs.Prelude.{Registry, managed_card_status, with_card_life}
 use Rattle.policy_machine.proofs.SparingForms.{IsManagedSparing}
 use Rattle.policy_machine.proofs.TreeKept.{SparesTree, spares_left}
 use Rattle.policy_machine.proofs.TreesAlike.{same_lists_leave}

@@ -4,10 +4,7 @@ use Rattle.std.proofs.Common.{◌≡◌, ℕ, Bool, List, Option, None, Some, re
 use Rattle.std.specs.Prelude.{IsSome}
 use Rattle.std.specs.Option.{option_map}
 use Rattle.card_types.proofs.MappedEntries.{KeepsNames, changed, domain_still, entry_changed, some_keep, unnamed_still}
-use Rattle.card_types.specs.Registry.{Entry, LoadFile, Registry, entry_named}
-use Rattle.card_types.specs.RegistryChange.{with_entries}
-use Rattle.policy_machine.specs.Sound.{Fits}
-use Rattle.policy_machine.specs.State.{LoadSession, Volatile}
+use Rattle.policy_machine.specs.Prelude.{Entry, Fits, LoadFile, LoadSession, Registry, Volatile, entry_named, with_entries}
 use Rattle.policy_machine.proofs.FitsKept.{LeavesRoom, fits_kept, same_files}
 
 -- also where other Executable Load Files leave a load session its room

@@ -6,11 +6,7 @@ use Rattle.std.proofs.lemmas.Cmp.{nat_list_cmp_total, on_total}
 use Rattle.card_types.proofs.LeastOfList.{least_found, sorted_by_name}
 use Rattle.card_types.proofs.NamedThings.{member_named}
 use Rattle.card_types.proofs.SameAid.{aid_same_equal, aid_same_itself, same_aid_decides}
-use Rattle.card_types.specs.Aid.{aid_order, same_aid}
-use Rattle.card_types.specs.ChangeLaws.{IsOfCard}
-use Rattle.card_types.specs.Registry.{Entry, LoadFile, Registry, domain_of, entry_named, file_named}
-use Rattle.domain_tree.specs.Above.{IsAboveIn}
-use Rattle.policy_machine.specs.Charge.{IsAtOrAbove, IsFileInCharge, IsInCharge}
+use Rattle.policy_machine.specs.Prelude.{Entry, IsAboveIn, IsAtOrAbove, IsFileInCharge, IsInCharge, IsOfCard, LoadFile, Registry, aid_order, domain_of, entry_named, file_named, same_aid}
 use Rattle.policy_machine.proofs.FileApart.{file_apart}
 
 module _ (registry : Registry) (of : IsOfCard registry) where

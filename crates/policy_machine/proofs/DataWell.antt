@@ -2,10 +2,8 @@
 use Rattle.std.proofs.Common.{ℕ, ◌≤◌, List, length}
 use Rattle.std.specs.Prelude.{All}
 use Rattle.std.proofs.lemmas.List.Elements.{All-weaker}
-use Rattle.card_types.specs.Registry.{Counter, Entry, Key, LoadFile, Object, Registry}
-use Rattle.card_types.specs.Well.{IsWellCounter, IsWellEntry, IsWellFile, IsWellKey, IsWellObject, IsWholeSet, Well}
+use Rattle.policy_machine.specs.Prelude.{Counter, Entry, IsWellCounter, IsWellEntry, IsWellFile, IsWellKey, IsWellObject, IsWholeSet, Key, LoadFile, Object, Registry, Well, with_data}
 use Rattle.card_types.specs.declared.limits.TheConstants.{OBJECTS}
-use Rattle.policy_machine.specs.DataObjects.{with_data}
 
 module _ (registry : Registry) (objects : List Object) where
   -- what is so of other things says nothing of the data objects
@@ -19,13 +17,8 @@ module _ (registry : Registry) (objects : List Object) where
   set_stays owner version whole = record { first = whole.first; second = whole.second; third = whole.third; counter = whole.counter }
 
   key_stays : (key : Key) → IsWellKey registry key → IsWellKey (with_data registry objects) key
-  key_stays key well = record {
-    owner = well.owner;
-    size = well.size;
-    size_of_set = well.size_of_set;
-    name = well.name;
-    whole = λ low. set_stays key.owner key.version (well.whole low);
-  }
+  key_stays key well =
+      record { owner = well.owner; size = well.size; size_of_set = well.size_of_set; name = well.name; whole = λ low. set_stays key.owner key.version (well.whole low) }
 
   counter_stays : (counter : Counter) → IsWellCounter registry counter → IsWellCounter (with_data registry objects) counter
   counter_stays counter well = record { set = set_stays counter.owner counter.version well.set; version = well.version; number = well.number }

@@ -1,13 +1,8 @@
 -- The forms of DELETE: the first byte of the data field tells which one takes a command.
 use Rattle.std.proofs.Common.{◌≡◌, inl, inr, ℕ, List, [], ◌∷◌, ◌++◌, Option, None, Some, ap, sym, subst, ◌∙◌, arith, append_assoc}
-use Rattle.bertlv.specs.Tag.{TagBytes, TagGoesOn}
+use Rattle.policy_machine.specs.Prelude.{AsksToDelete, AsksToDeleteKey, Chooses, DeletionAsked, IsMalformed, IsRefusedBy, KeyChosen, TagBytes, TagGoesOn, command_form, managed_delete_key, managed_delete_object}
 use Rattle.policy_machine.proofs.InstallForms.{AreApart}
-use Rattle.policy_machine.specs.DeleteKey.{AsksToDeleteKey, Chooses, KeyChosen, managed_delete_key}
-use Rattle.policy_machine.specs.DeleteObject.{AsksToDelete, DeletionAsked, managed_delete_object}
-use Rattle.policy_machine.specs.Malformed.{IsRefusedBy}
-use Rattle.policy_machine.specs.Malformed.{IsMalformed}
 use Rattle.policy_machine.specs.declared.rule.Rule.{Rule}
-use Rattle.policy_machine.specs.ManagedForm.{command_form}
 
 -- a data field that begins with this tag has another first byte
 tag_first : (field behind body : List ℕ) → TagBytes 0x4F field → body ≡ field ++ behind → (first : ℕ) (more : List ℕ) → body ≡ first ∷ more → first ≡ 0x4F

@@ -2,10 +2,7 @@
 use Rattle.std.proofs.Common.{ℕ, List, [], arith}
 use Rattle.std.specs.Prelude.{not}
 use Rattle.std.proofs.lemmas.List.Sorted.{IsPermutation-refl}
-use Rattle.card_types.specs.Aid.{same_aid}
-use Rattle.card_types.specs.Registry.{IsAscending, counter_order, key_order, Registry}
-use Rattle.card_types.specs.Well.{Well}
-use Rattle.policy_machine.specs.KeySets.{counters_but, is_counter_numbered, is_key_numbered, keys_but, with_keys}
+use Rattle.policy_machine.specs.Prelude.{IsAscending, Registry, Well, counter_order, counters_but, is_counter_numbered, is_key_numbered, key_order, keys_but, same_aid, with_keys}
 use Rattle.policy_machine.proofs.Filtered.{fewer_pass, filter_sorted, most_pass}
 use Rattle.policy_machine.proofs.PutKeyKeys.{put_well}
 

@@ -1,15 +1,9 @@
 -- The laws of DELETE of a key.
 use Rattle.std.proofs.Common.{Option, inl, refl}
-use Rattle.policy_machine.specs.Admission.{Admitted}
-use Rattle.policy_machine.specs.DeleteKey.{managed_delete_key}
-use Rattle.policy_machine.specs.KeySets.{counters_but, keys_but}
-use Rattle.policy_machine.specs.Management.{acting}
+use Rattle.policy_machine.specs.Prelude.{Admitted, IsFirst, IsJudgeable, Judges, TakesCommand, acting, command_form, counters_but, keys_but, managed_delete_key}
 use Rattle.policy_machine.proofs.SameThings.{same_fits}
 use Rattle.policy_machine.proofs.Judging.{judged}
-use Rattle.policy_machine.specs.Commands.{TakesCommand, Judges}
-use Rattle.policy_machine.specs.Refusal.{IsFirst}
 use Rattle.policy_machine.specs.declared.rule.Rule.{Rule}
-use Rattle.policy_machine.specs.ManagedForm.{IsJudgeable, command_form}
 use Rattle.policy_machine.proofs.ManagedLawful.{IsManagedLawful, leaves_one}
 use Rattle.policy_machine.proofs.DeleteKeyChosen.{one_choice}
 use Rattle.policy_machine.proofs.DeleteKeyKeeps.{without_version, without_version_ascending, without_version_well}

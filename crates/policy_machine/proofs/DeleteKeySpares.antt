@@ -2,10 +2,7 @@
 use Rattle.std.proofs.Common.{◌≡◌, ◌≢◌, ℕ, List, [], false, refl, ap, sym, subst, arith}
 use Rattle.std.specs.Prelude.{◌&&◌, ◌==◌}
 use Rattle.card_types.proofs.NamedThings.{aid_differs}
-use Rattle.card_types.specs.Registry.{Key, Object, Registry}
-use Rattle.policy_machine.specs.DeleteKey.{managed_delete_key}
-use Rattle.policy_machine.specs.KeySets.{counters_but, is_key_numbered, keys_but, with_keys}
-use Rattle.policy_machine.specs.Management.{acting}
+use Rattle.policy_machine.specs.Prelude.{Key, Object, Registry, acting, counters_but, is_key_numbered, keys_but, managed_delete_key, with_keys}
 use Rattle.policy_machine.proofs.SparingForms.{IsManagedSparing}
 use Rattle.policy_machine.proofs.TreeKept.{SparesTree}
 use Rattle.policy_machine.proofs.TreesOwned.{owned_spared, same_list, same_replaced}

@@ -4,10 +4,8 @@ use Rattle.std.specs.Prelude.{take}
 use Rattle.std.proofs.Math.Seq.{take-append_seam}
 use Rattle.std.proofs.lemmas.List.{nil_from_length}
 use Rattle.bertlv.proofs.SpellingLemmas.{spelling_front}
-use Rattle.bertlv.specs.Spelling.{BeginsWith, Spelling}
-use Rattle.card_types.specs.Aid.{IsAid}
+use Rattle.policy_machine.specs.Prelude.{AsksToDelete, BeginsWith, DeletionAsked, IsAid, IsTokenField, Spelling}
 use Rattle.policy_machine.proofs.StoreDataElements.{rest_shorter}
-use Rattle.policy_machine.specs.DeleteObject.{AsksToDelete, DeletionAsked, IsTokenField}
 
 -- an element has bytes
 spelled_some : (tag : ℕ) (value : List ℕ) → Spelling tag value [] → ⊥

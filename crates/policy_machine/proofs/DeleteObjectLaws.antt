@@ -8,22 +8,13 @@ use Rattle.card_types.proofs.Members.{filtered}
 use Rattle.card_types.proofs.NamedThings.{aid_cases, aid_differs, found_kept, rest_found, rest_shorter, rest_unfound, unfound_kept}
 use Rattle.card_types.proofs.RemovedThing.{entry_removed_keeps, file_removed_keeps}
 use Rattle.card_types.proofs.SameAid.{same_aid_decides}
-use Rattle.card_types.specs.Aid.{same_aid}
-use Rattle.card_types.specs.ChangeLaws.{IsOfCard}
-use Rattle.card_types.specs.Registry.{Entry, LoadFile, Registry, entry_named, is_domain}
-use Rattle.card_types.specs.RegistryChange.{without_applications, without_entry}
-use Rattle.card_types.specs.Well.{pages_of}
+use Rattle.policy_machine.specs.Prelude.{Admitted, AsksToDelete, ComesFrom, DeleteParameters, DeletingFails, DeletionAsked, Entry, IsFirst, IsInUse, IsJudgeable, IsOfCard, LoadFile, Registry, command_form, entry_named, is_domain, managed_delete_object, pages_of, same_aid, without_applications, without_entry, without_thing}
 use Rattle.card_types.specs.declared.factory.TheConstants.{FACTORY_FILE, ISSUER}
-use Rattle.policy_machine.specs.Admission.{Admitted}
-use Rattle.policy_machine.specs.DeleteKey.{DeleteParameters}
-use Rattle.policy_machine.specs.DeleteObject.{AsksToDelete, ComesFrom, DeletingFails, DeletionAsked, IsInUse, managed_delete_object, without_thing}
-use Rattle.policy_machine.specs.Refusal.{IsFirst}
 use Rattle.policy_machine.specs.declared.delete_object.RuleDO.TheVariants.{DO2, DO4}
 use Rattle.policy_machine.proofs.DeleteObjectAsking.{one_deletion}
 use Rattle.policy_machine.proofs.FitsKept.{IsHeld, KeepsHeld, fits_kept, some_there}
 use Rattle.policy_machine.proofs.Lawful.{sound_of_card}
 use Rattle.policy_machine.proofs.ManagedJudging.{own_pass, delegation_asked}
-use Rattle.policy_machine.specs.ManagedForm.{IsJudgeable, command_form}
 use Rattle.policy_machine.proofs.ManagedLawful.{IsManagedLawful, leaves_one, receipt_judged}
 
 module _ (admitted : Admitted) (asked : DeletionAsked) (parameters : DeleteParameters admitted.command.p1 admitted.command.p2)
@@ -117,12 +108,7 @@ module _ (admitted : Admitted) (asked : DeletionAsked) (parameters : DeleteParam
       }
 
 pub deletion_judgeable : IsJudgeable managed_delete_object.judged
-deletion_judgeable = record {
-  one_asked = λ p1 p2 body a b one other. one_deletion a b body one other;
-  own = λ rule. tt;
-  one_rule = λ a b same. cc;
-  approving = delegation_asked;
-}
+deletion_judgeable = record { one_asked = λ p1 p2 body a b one other. one_deletion a b body one other; own = λ rule. tt; one_rule = λ a b same. cc; approving = delegation_asked }
 
 -- the registry without what is to go is one that a card may have
 pub deleted_of_card : (admitted : Admitted) (asked : DeletionAsked) → AsksToDelete admitted.command.body asked

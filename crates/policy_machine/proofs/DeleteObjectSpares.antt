@@ -1,11 +1,6 @@
 -- DELETE of an object spares the trees in which the acting domain is not: without Global Delete all that goes is in its charge.
 use Rattle.std.proofs.Common.{◌≡◌, ◌⊎◌, inl, inr, ℕ, List, refl, sym, subst, arith}
-use Rattle.card_types.specs.Registry.{Registry}
-use Rattle.policy_machine.specs.Admission.{Admitted}
-use Rattle.policy_machine.specs.Charge.{IsInCharge}
-use Rattle.policy_machine.specs.DeleteKey.{DeleteParameters}
-use Rattle.policy_machine.specs.DeleteObject.{ComesFrom, DeletingFails, DeletionAsked, IsToGo, managed_delete_object}
-use Rattle.policy_machine.specs.Management.{acting}
+use Rattle.policy_machine.specs.Prelude.{Admitted, ComesFrom, DeleteParameters, DeletingFails, DeletionAsked, IsInCharge, IsToGo, Registry, acting, managed_delete_object}
 use Rattle.policy_machine.specs.declared.delete_object.RuleDO.TheVariants.{DO3, DO4}
 use Rattle.policy_machine.proofs.SparingForms.{IsManagedSparing}
 use Rattle.policy_machine.proofs.TreeKept.{SparesTree}

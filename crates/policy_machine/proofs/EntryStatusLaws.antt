@@ -6,26 +6,15 @@ use Rattle.std.proofs.lemmas.Bool.{false_from_ne_true}
 use Rattle.std.proofs.lemmas.List.Elements.{All-contains}
 use Rattle.card_types.proofs.LeastOfList.{found_fits}
 use Rattle.card_types.proofs.LifeChanges.{life_keeps, locks_keep}
-use Rattle.card_types.specs.Aid.{same_aid, IsAid}
-use Rattle.card_types.specs.ChangeLaws.{IsOfCard}
-use Rattle.card_types.specs.Registry.{Entry, Registry, domain_of, entry_named, is_domain}
-use Rattle.card_types.specs.RegistryChange.{with_life, with_locks}
-use Rattle.card_types.specs.Well.{IsIssuerDomain, IsWellEntry, Well, has_life}
+use Rattle.policy_machine.specs.Prelude.{Admitted, Entry, Fits, IsAboveIn, IsAid, IsEntryStep, IsFirst, IsIssuerDomain, IsJudgeable, IsMarked, IsOfCard, IsPersonalizing, IsTreeOf, IsWellEntry, Marks, OneIsSet, Registry, TreeIsSet, Volatile, Well, command_form, domain_of, entry_named, has_life, is_domain, managed_entry_status, same_aid, with_life, with_locks}
 use Rattle.card_types.specs.declared.factory.TheConstants.{ISSUER}
 use Rattle.card_types.specs.declared.life.Life.TheVariants.{Personalized}
 use Rattle.card_types.specs.declared.life.LifeMark.{LifeMark}
 use Rattle.domain_tree.proofs.Paths.{root_alone}
-use Rattle.domain_tree.specs.Above.{IsAboveIn, IsTreeOf}
-use Rattle.policy_machine.specs.Admission.{Admitted}
-use Rattle.policy_machine.specs.EntryStatus.{IsEntryStep, IsMarked, IsPersonalizing, Marks, OneIsSet, TreeIsSet, managed_entry_status}
-use Rattle.policy_machine.specs.Refusal.{IsFirst}
-use Rattle.policy_machine.specs.Sound.{Fits}
-use Rattle.policy_machine.specs.State.{Volatile}
 use Rattle.policy_machine.specs.declared.entry_status.RuleSS.TheVariants.{SS2}
 use Rattle.policy_machine.proofs.ChangedFits.{changed_fits}
 use Rattle.policy_machine.proofs.Lawful.{some_same, sound_of_card}
 use Rattle.policy_machine.proofs.ManagedJudging.{own_pass}
-use Rattle.policy_machine.specs.ManagedForm.{IsJudgeable, command_form}
 use Rattle.policy_machine.proofs.ManagedLawful.{IsManagedLawful, KeepsCard, undelegated}
 
 -- nothing is above the Issuer Security Domain

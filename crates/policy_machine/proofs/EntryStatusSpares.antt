@@ -2,14 +2,8 @@
 use Rattle.std.proofs.Common.{◌≡◌, ◌⊎◌, inl, inr, ℕ, false, List, refl, sym, subst, ◌∙◌, arith}
 use Rattle.std.proofs.lemmas.Bool.{false_from_ne_true}
 use Rattle.card_types.proofs.NamedThings.{aid_differs}
-use Rattle.card_types.specs.Aid.{same_aid}
-use Rattle.card_types.specs.Registry.{Registry}
+use Rattle.policy_machine.specs.Prelude.{Admitted, IsAboveIn, IsAtOrAbove, OneIsSet, PersonalizesItself, Registry, SettingStatusFails, TreeIsSet, acting, managed_entry_status, same_aid}
 use Rattle.domain_tree.proofs.Compared.{above_further}
-use Rattle.domain_tree.specs.Above.{IsAboveIn}
-use Rattle.policy_machine.specs.Admission.{Admitted}
-use Rattle.policy_machine.specs.Charge.{IsAtOrAbove}
-use Rattle.policy_machine.specs.EntryStatus.{OneIsSet, PersonalizesItself, SettingStatusFails, TreeIsSet, managed_entry_status}
-use Rattle.policy_machine.specs.Management.{acting}
 use Rattle.policy_machine.specs.declared.entry_status.RuleSS.TheVariants.{SS3}
 use Rattle.policy_machine.proofs.SparingForms.{IsManagedSparing}
 use Rattle.policy_machine.proofs.TreeKept.{AreApart, SparesTree, out_of_reach}

@@ -1,24 +1,15 @@
 -- The laws of EXTERNAL AUTHENTICATE.
 use Rattle.std.proofs.Common.{◌≡◌, ℕ, refl, sym, ap, subst, ◌∙◌}
 use Rattle.std.specs.Prelude.{◌==◌, if◌then◌else◌}
-use Rattle.policy_machine.specs.Admission.{Admitted}
-use Rattle.policy_machine.specs.ExternalAuthenticate.{ExternalAuthenticateEffect, external_authenticate}
-use Rattle.policy_machine.specs.Sound.{Fits, IsSound}
-use Rattle.policy_machine.specs.State.{Effect, Secured, Volatile, with_secure_channel, offer_on}
-use Rattle.scp03_card.specs.Offer.{Offer}
-use Rattle.scp03_card.specs.Session.{HasCryptogram, HasMac, answered}
+use Rattle.policy_machine.specs.Prelude.{Admitted, Effect, ExternalAuthenticateEffect, ExternalAuthenticateFails, Fits, FormFails, HasCryptogram, HasMac, IsFirst, IsSound, Judges, Offer, Secured, TakesCommand, Volatile, answered, code_of, external_authenticate, external_authenticate_rules, offer_on, rules_before_form, with_secure_channel}
 use Rattle.policy_machine.proofs.SecureChannelSet.{offer_stands, secured_fits}
 use Rattle.card_types.proofs.OneOfCode.{level_by_code}
-use Rattle.card_types.specs.Level.{code_of}
 use Rattle.card_types.specs.declared.level.Level.{Level}
 use Rattle.policy_machine.proofs.SameEffect.{effect_same, state_same}
 use Rattle.policy_machine.proofs.Lawful.{IsLawful, IsReady, place_leaves_secure_channel, same_as, some_same, sound_with}
 use Rattle.std.proofs.Common.{Bool, true, false, List, [], ◌∷◌, ◌++◌, Option, None, Some, inl, inr}
 use Rattle.std.proofs.lemmas.Bool.{eqb-true}
 use Rattle.policy_machine.proofs.Judging.{BeginPasses, judged_behind}
-use Rattle.policy_machine.specs.Commands.{FormFails, TakesCommand, Judges}
-use Rattle.policy_machine.specs.ExternalAuthenticate.{ExternalAuthenticateFails, external_authenticate_rules, rules_before_form}
-use Rattle.policy_machine.specs.Refusal.{IsFirst}
 use Rattle.policy_machine.specs.declared.external_authenticate.RuleEA.TheVariants.{EA1, EA2, EA3}
 use Rattle.policy_machine.specs.declared.rule.RulePS.TheVariants.{P, S}
 use Rattle.policy_machine.specs.declared.rule.Rule.{Rule}

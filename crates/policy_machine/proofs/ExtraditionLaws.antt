@@ -4,20 +4,13 @@ use Rattle.std.specs.Prelude.{MatchOption}
 use Rattle.std.proofs.lemmas.Bool.{cases_Bool}
 use Rattle.card_types.proofs.MovedThing.{moved_keeps}
 use Rattle.card_types.proofs.NamedThings.{aid_cases}
-use Rattle.card_types.specs.ChangeLaws.{IsOfCard, MayMove}
-use Rattle.card_types.specs.Registry.{Entry, domain_of, entry_named, is_domain}
-use Rattle.card_types.specs.RegistryChange.{moved}
+use Rattle.policy_machine.specs.Prelude.{Admitted, AsksToExtradite, Entry, ExtraditingFails, InstallData, IsFirst, IsJudgeable, IsOfCard, MayMove, command_form, domain_of, entry_named, is_domain, managed_extradition, moved}
 use Rattle.domain_tree.proofs.Paths.{off_line}
-use Rattle.policy_machine.specs.Admission.{Admitted}
-use Rattle.policy_machine.specs.Extradition.{AsksToExtradite, ExtraditingFails, managed_extradition}
-use Rattle.policy_machine.specs.Refusal.{IsFirst}
-use Rattle.policy_machine.specs.InstallFields.{InstallData}
 use Rattle.policy_machine.specs.declared.extradition.RuleEX.TheVariants.{EX2, EX3, EX6}
 use Rattle.policy_machine.proofs.Lawful.{sound_of_card}
 use Rattle.policy_machine.proofs.LengthFields.{one_data}
 use Rattle.policy_machine.proofs.MovedFits.{moved_fits}
 use Rattle.policy_machine.proofs.ManagedJudging.{OwnPass, own_pass, delegation_asked}
-use Rattle.policy_machine.specs.ManagedForm.{IsJudgeable, command_form}
 use Rattle.policy_machine.proofs.ManagedLawful.{IsManagedLawful, leaves_one, receipt_judged}
 
 -- what can't be no domain is one
@@ -43,12 +36,7 @@ module _ (admitted : Admitted) (given : InstallData) (known : ExtraditingFails a
   }
 
 pub extradition_judgeable : IsJudgeable managed_extradition.judged
-extradition_judgeable = record {
-  one_asked = λ p1 p2 body a b one other. one_data a b body one.fields other.fields;
-  own = λ rule. tt;
-  one_rule = λ a b same. cc;
-  approving = delegation_asked;
-}
+extradition_judgeable = record { one_asked = λ p1 p2 body a b one other. one_data a b body one.fields other.fields; own = λ rule. tt; one_rule = λ a b same. cc; approving = delegation_asked }
 
 -- its own rules leave the thing in its new domain
 module _ (admitted : Admitted) (given : InstallData) (of : IsOfCard admitted.at.registry) (own : OwnPass managed_extradition.judged admitted given) where

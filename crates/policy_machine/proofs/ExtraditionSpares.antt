@@ -3,22 +3,9 @@ use Rattle.std.proofs.Common.{◌≡◌, ◌≢◌, inl, inr, ℕ, true, List, O
 use Rattle.std.specs.Prelude.{is_some}
 use Rattle.std.proofs.lemmas.Bool.{and_parts, cases_Bool}
 use Rattle.card_types.proofs.NamedThings.{aid_cases}
-use Rattle.card_types.specs.Privileges.{delegated_management, token_verification}
-use Rattle.card_types.specs.Registry.{Key, Registry, entry_named, key_named}
+use Rattle.policy_machine.specs.Prelude.{Admitted, Holds, InstallData, IsAboveIn, IsAtOrAbove, IsEntrusted, IsVerifier, JudgesAs, Key, Member, MovesWith, Registry, acting, approval_in, command_form, delegated_management, entry_named, has_with_key, is_privileged, key_named, managed_extradition, token, token_verification}
 use Rattle.domain_tree.proofs.Compared.{above_compared, above_decided}
 use Rattle.domain_tree.proofs.FirstFound.{first_above_decided}
-use Rattle.domain_tree.specs.Above.{IsAboveIn}
-use Rattle.tokens_receipts.specs.Token.{token}
-use Rattle.policy_machine.specs.Admission.{Admitted}
-use Rattle.policy_machine.specs.Charge.{IsAtOrAbove, is_privileged}
-use Rattle.policy_machine.specs.Commands.{JudgesAs}
-use Rattle.policy_machine.specs.Delegation.{Holds, IsVerifier, has_with_key}
-use Rattle.policy_machine.specs.Extradition.{managed_extradition}
-use Rattle.policy_machine.specs.InstallFields.{InstallData, approval_in}
-use Rattle.policy_machine.specs.Isolation.{IsEntrusted, MovesWith}
-use Rattle.policy_machine.specs.ManagedForm.{command_form}
-use Rattle.policy_machine.specs.Management.{acting}
-use Rattle.policy_machine.specs.Trees.{Member}
 use Rattle.policy_machine.specs.declared.delegation.RuleTK.TheVariants.{TK3}
 use Rattle.policy_machine.specs.declared.extradition.RuleEX.TheVariants.{EX1, EX2, EX3, EX4, EX6, EX7}
 use Rattle.policy_machine.specs.declared.rule.Rule.TheVariants.{TK}

@@ -3,10 +3,8 @@ use Rattle.std.proofs.Common.{◌≡◌, ℕ, List, None, Some, subst}
 use Rattle.std.proofs.lemmas.List.Elements.{All-contains}
 use Rattle.card_types.proofs.LeastOfList.{found_fits}
 use Rattle.card_types.proofs.SameAid.{same_aid_decides}
-use Rattle.card_types.specs.Aid.{same_aid}
+use Rattle.policy_machine.specs.Prelude.{IsWellFile, Well, entry_named, file_named, same_aid}
 use Rattle.card_types.specs.Registry as registry
-use Rattle.card_types.specs.Registry.{entry_named, file_named}
-use Rattle.card_types.specs.Well.{IsWellFile, Well}
 
 -- what is an Executable Load File is no entry
 pub file_apart : (said : registry.Registry) → Well said → (aid : List ℕ) (file : registry.LoadFile) → file_named said aid ≡ Some file → entry_named said aid ≡ None

@@ -3,11 +3,8 @@
 use Rattle.std.proofs.Common.{◌≡◌, ◌⊎◌, inl, inr, List, Option, None, Some, ℕ, ◌≤◌, length, refl, ap, sym, subst, ◌∙◌, arith}
 use Rattle.std.specs.Prelude.{IsSome, MatchOption}
 use Rattle.std.specs.List.{sum_by}
-use Rattle.card_types.specs.Registry.{LoadFile, Registry, entry_named, file_named}
-use Rattle.card_types.specs.Well.{IsDomainNamed, pages_of}
-use Rattle.policy_machine.specs.DeleteObject.{IsLoadedInto, IsSelected}
-use Rattle.policy_machine.specs.Sound.{Fits, FitsSecureChannel, IsWellChannel, IsWellLoad, IsSecured}
-use Rattle.policy_machine.specs.State.{Channel, LoadSession, Nothing, Offered, SecureChannel, Secured, Volatile, channel_at}
+use Rattle.policy_machine.specs.Prelude.{Channel, Fits, FitsSecureChannel, IsDomainNamed, IsLoadedInto, IsSecured, IsSelected, IsWellChannel, IsWellLoad, LoadFile, LoadSession, Nothing, Registry, SecureChannel, Secured, Volatile, channel_at, entry_named, file_named, pages_of}
+use Rattle.policy_machine.specs.State.{Offered}
 
 -- it is selected on a channel, or what is loaded goes into it
 abbrev pub IsHeld : Volatile → List ℕ → Type 0

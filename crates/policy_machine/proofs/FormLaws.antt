@@ -1,12 +1,7 @@
 -- What is shown of the form of a command, from which the laws over all commands follow.
 use Rattle.std.proofs.Common.{◌≡◌, ◌⊎◌, ℕ, List}
 use Rattle.std.specs.Prelude.{Contains}
-use Rattle.policy_machine.specs.Admission.{Admitted}
-use Rattle.policy_machine.specs.Changes.{IsSameButCounters}
-use Rattle.policy_machine.specs.Classes.{changing, managing}
-use Rattle.policy_machine.specs.CommandForm.{CommandForm}
-use Rattle.policy_machine.specs.ManagedForm.{ManagedForm, command_form}
-use Rattle.policy_machine.specs.State.{Effect}
+use Rattle.policy_machine.specs.Prelude.{Admitted, CommandForm, Effect, IsSameButCounters, ManagedForm, changing, command_form, managing}
 use Rattle.policy_machine.specs.declared.instruction.TheConstants.{EXTERNAL_AUTHENTICATE, PUT_KEY}
 use Rattle.policy_machine.proofs.Alike.{IsAlikeForm}
 use Rattle.policy_machine.proofs.ChangingBytes.{manages}

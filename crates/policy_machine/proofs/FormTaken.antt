@@ -1,9 +1,6 @@
 -- The form that takes a command: what is so of each lawful form is so of what commands do.
 use Rattle.std.proofs.Common.{◌≡◌, List, [], ◌∷◌, Option, None, refl, sym, ◌∙◌, inl, inr}
-use Rattle.policy_machine.specs.Admission.{Admitted}
-use Rattle.policy_machine.specs.CommandForm.{CommandForm}
-use Rattle.policy_machine.specs.Commands.{AtMostOne, DoesAs, HasEffect, Judges, JudgesAs, OneOf, TakesCommand, forms_of}
-use Rattle.policy_machine.specs.State.{Effect}
+use Rattle.policy_machine.specs.Prelude.{Admitted, AtMostOne, CommandForm, DoesAs, Effect, HasEffect, Judges, JudgesAs, OneOf, TakesCommand, forms_of}
 use Rattle.policy_machine.specs.declared.rule.Rule.{Rule}
 use Rattle.policy_machine.proofs.AllForms.{AllOf, lawful_forms, one_form}
 use Rattle.policy_machine.proofs.Lawful.{IsLawful}

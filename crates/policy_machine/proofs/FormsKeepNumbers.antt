@@ -1,19 +1,8 @@
 -- What the forms of card content management make of the registry changes no receipt number.
 use Rattle.std.proofs.Common.{◌≡◌, ◌⊎◌, inl, inr, ℕ, Bool, false, List, cond, refl, ap, sym, subst}
 use Rattle.std.proofs.lemmas.Bool.{cond_both}
-use Rattle.card_types.specs.Aid.{same_aid}
-use Rattle.card_types.specs.Registry.{Entry, Registry}
-use Rattle.card_types.specs.RegistryChange.{with_entries}
+use Rattle.policy_machine.specs.Prelude.{Entry, OneIsSet, Registry, TreeIsSet, entry_made, managed_card_status, managed_delete_key, managed_delete_object, managed_entry_status, managed_extradition, managed_install, managed_put_key, managed_selectable, managed_store_data, same_aid, with_entries, without_thing}
 use Rattle.card_types.specs.declared.life.Life.TheVariants.{Selectable}
-use Rattle.policy_machine.specs.CardStatus.{managed_card_status}
-use Rattle.policy_machine.specs.DeleteKey.{managed_delete_key}
-use Rattle.policy_machine.specs.DeleteObject.{managed_delete_object, without_thing}
-use Rattle.policy_machine.specs.EntryStatus.{OneIsSet, TreeIsSet, managed_entry_status}
-use Rattle.policy_machine.specs.Extradition.{managed_extradition}
-use Rattle.policy_machine.specs.InstallApplication.{entry_made, managed_install}
-use Rattle.policy_machine.specs.MakeSelectable.{managed_selectable}
-use Rattle.policy_machine.specs.PutKey.{managed_put_key}
-use Rattle.policy_machine.specs.StoreData.{managed_store_data}
 use Rattle.policy_machine.proofs.InstallApplicationLaws.{may_be_added}
 use Rattle.policy_machine.proofs.NumbersKept.{KeepsNumbers, added_numbers, changed_numbers, found_numbers, same_numbers}
 use Rattle.policy_machine.proofs.RisingForms.{KeepsAllNumbers}

@@ -1,11 +1,8 @@
 -- A channel on which an entry was just selected.
 use Rattle.std.proofs.Common.{ℕ, List, Option, None, Some, refl}
 use Rattle.std.specs.Prelude.{IsSome, MatchOption}
-use Rattle.card_types.specs.Registry.{Entry, Registry, entry_named}
-use Rattle.card_types.specs.Well.{IsIssuerDomain, Well}
+use Rattle.policy_machine.specs.Prelude.{Entry, IsIssuerDomain, IsWellChannel, Registry, Well, entry_named, fresh}
 use Rattle.card_types.specs.declared.factory.TheConstants.{ISSUER}
-use Rattle.policy_machine.specs.Sound.{IsWellChannel}
-use Rattle.policy_machine.specs.State.{fresh}
 
 issuer_is_named : (registry : Registry) → (found : Option Entry) → MatchOption found ⊥ IsIssuerDomain → IsSome found
 issuer_is_named registry None issuer = absurd issuer

@@ -1,23 +1,16 @@
 -- The laws of GET DATA.
 use Rattle.std.proofs.Common.{◌≡◌, ℕ, List, sym, ap, subst, ◌∙◌, inl, inr, arith, None, Some, refl}
 use Rattle.std.specs.Prelude.{map}
-use Rattle.policy_machine.specs.Admission.{Admitted}
-use Rattle.policy_machine.specs.Sound.{IsSound}
-use Rattle.policy_machine.specs.State.{Effect, State}
+use Rattle.policy_machine.specs.Prelude.{Admitted, AsksFor, Effect, GetDataEffect, HasData, IsDataObject, IsSequenceCounter, IsSound, Judges, Spelling, State, TakesCommand, counter_bytes, get_data, key_information, tag_of}
 use Rattle.bertlv.proofs.SpellingLemmas.{one_spelling, one_spelling_each}
-use Rattle.bertlv.specs.Spelling.{Spelling}
-use Rattle.policy_machine.specs.GetData.{GetDataEffect, HasData, IsDataObject, IsSequenceCounter, key_information, tag_of, get_data}
 use Rattle.policy_machine.proofs.SameEffect.{effect_same}
-use Rattle.scp03_card.specs.Offer.{counter_bytes}
 use Rattle.policy_machine.proofs.Lawful.{IsLawful, placeless_same, same_as, some_same}
 use Rattle.policy_machine.proofs.OneSet.{counter_one}
 use Rattle.card_types.specs.Registry as registry
 use Rattle.policy_machine.proofs.Judging.{judged}
-use Rattle.policy_machine.specs.Commands.{TakesCommand, Judges}
 use Rattle.policy_machine.specs.declared.rule.Rule.TheVariants.{GD}
 use Rattle.policy_machine.specs.declared.get_data.RuleGD.{RuleGD}
 use Rattle.policy_machine.specs.declared.get_data.RuleGD.TheVariants.{GD1}
-use Rattle.policy_machine.specs.GetData.{AsksFor}
 
 sequence_one : (said : registry.Registry) (domain a b : List ℕ) → IsSequenceCounter said domain a → IsSequenceCounter said domain b → a ≡ b
 sequence_one said domain a b one other =

@@ -1,10 +1,6 @@
 -- The laws of GET STATUS.
 use Rattle.std.proofs.Common.{ap, ◌≡◌, ℕ, ◌<◌, List, [], ◌∷◌, ◌++◌, Some, refl, sym, subst, ◌∙◌, arith, inl}
-use Rattle.card_types.specs.Registry.{Registry}
-use Rattle.policy_machine.specs.Admission.{Admitted}
-use Rattle.policy_machine.specs.GetStatus.{AreTemplates, GetStatusEffect, IsFullFor, IsLeftAt, Thing, channel_at_place, get_status, with_place}
-use Rattle.policy_machine.specs.Sound.{Fits, IsSound}
-use Rattle.policy_machine.specs.State.{Effect, Place, Volatile}
+use Rattle.policy_machine.specs.Prelude.{Admitted, AreTemplates, Effect, Fits, GetStatusEffect, IsFullFor, IsLeftAt, IsSound, Place, Registry, Thing, Volatile, channel_at_place, get_status, with_place}
 use Rattle.policy_machine.proofs.Lawful.{IsLawful, IsReady, same_as, sound_with, LoadStays}
 use Rattle.policy_machine.proofs.SameEffect.{effect_same, state_same}
 use Rattle.policy_machine.proofs.SecureChannelSet.{within}

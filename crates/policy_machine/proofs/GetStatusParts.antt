@@ -6,14 +6,10 @@ use Rattle.std.specs.Ordering.{on}
 use Rattle.std.specs.declared.cmp.Ordering.{Ordering}
 use Rattle.std.proofs.lemmas.Cmp.{nat_list_cmp_total, on_total}
 use Rattle.bertlv.proofs.SpellingLemmas.{one_spelling, one_spelling_each}
-use Rattle.bertlv.specs.Spelling.{Spelling}
+use Rattle.policy_machine.specs.Prelude.{Admitted, AreTemplates, IsListing, IsTemplate, Registry, Spelling, Thing, aid_in, aid_order, part_limit, status_parts}
 use Rattle.card_types.proofs.AtMostOnce.{once_from_sorted, same_members}
 use Rattle.card_types.proofs.ChangeExists.{one_order}
 use Rattle.card_types.proofs.LeastOfList.{sorted_by_name}
-use Rattle.card_types.specs.Aid.{aid_order}
-use Rattle.card_types.specs.Registry.{Registry}
-use Rattle.policy_machine.specs.Admission.{Admitted}
-use Rattle.policy_machine.specs.GetStatus.{AreTemplates, IsListing, IsTemplate, Thing, aid_in, part_limit, status_parts}
 
 -- two listings have the same things in the same order
 pub one_listing : (admitted : Admitted) (xs ys : List Thing) → IsListing admitted xs → IsListing admitted ys → xs ≡ ys

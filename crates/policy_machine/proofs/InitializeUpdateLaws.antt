@@ -1,31 +1,21 @@
 -- The laws of INITIALIZE UPDATE.
 use Rattle.std.proofs.Common.{◌≡◌, ◌≢◌, ℕ, List, [], ◌∷◌, false, None, refl, sym, ap, subst, ◌∙◌, arith, Option, inl}
 use Rattle.std.specs.Prelude.{◌==◌, map}
-use Rattle.card_types.specs.Counters.{raised, raised_counter}
-use Rattle.card_types.specs.Registry.{Counter}
+use Rattle.policy_machine.specs.Prelude.{Admitted, AsksForSet, Counter, Effect, InitializeUpdateEffect, InitializeUpdateFails, IsFirst, IsOfferOf, IsSameButCounters, IsSound, Judges, JudgesAs, Offer, TakesCommand, UsesSet, Volatile, acting, initialize_update, offer_body, offer_rules, raised, raised_counter, set_counter, with_secure_channel, without_number}
 use Rattle.card_types.specs.declared.limits.TheConstants.{COUNTER_LIMIT}
-use Rattle.policy_machine.specs.Admission.{Admitted}
-use Rattle.policy_machine.specs.Commands.{JudgesAs}
-use Rattle.policy_machine.specs.Refusal.{IsFirst}
-use Rattle.policy_machine.specs.InitializeUpdate.{AsksForSet, InitializeUpdateEffect, InitializeUpdateFails, IsOfferOf, offer_body, initialize_update, offer_rules}
-use Rattle.policy_machine.specs.Management.{acting}
-use Rattle.policy_machine.specs.Sound.{IsSound}
-use Rattle.policy_machine.specs.State.{Effect, Offered, Volatile, with_secure_channel}
+use Rattle.policy_machine.specs.State.{Offered}
 use Rattle.policy_machine.specs.declared.initialize_update.RuleIU.TheVariants.{IU3}
 use Rattle.policy_machine.specs.declared.instruction.TheConstants.{SELECT, MANAGE_CHANNEL, INITIALIZE_UPDATE, LOAD}
 use Rattle.policy_machine.specs.declared.rule.Rule.TheVariants.{IU}
 use Rattle.policy_machine.proofs.FirstUnique.{none_fails}
 use Rattle.policy_machine.proofs.InitializeUpdateOffer.{raised_ascending, raised_fits, set_raised_well, well_offer}
 use Rattle.policy_machine.proofs.SecureChannelSet.{unloaded_fits}
-use Rattle.policy_machine.specs.KeySets.{UsesSet, set_counter}
 use Rattle.policy_machine.proofs.SameEffect.{effect_same, state_same}
-use Rattle.scp03_card.specs.Offer.{Offer, offered}
-use Rattle.policy_machine.specs.Changes.{IsSameButCounters, without_number}
+use Rattle.scp03_card.specs.Offer.{offered}
 use Rattle.policy_machine.proofs.Lawful.{IsLawful, IsReady, place_leaves_secure_channel, some_same}
 use Rattle.policy_machine.proofs.OneSet.{owner_one}
 use Rattle.card_types.specs.Registry as registry
 use Rattle.policy_machine.proofs.Judging.{judged}
-use Rattle.policy_machine.specs.Commands.{TakesCommand, Judges}
 use Rattle.policy_machine.specs.declared.rule.Rule.{Rule}
 
 counter_goes_on : (admitted : Admitted) → IsFirst (InitializeUpdateFails admitted) offer_rules None → (owner : List ℕ) (counter : Counter)

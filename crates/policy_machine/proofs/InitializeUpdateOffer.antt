@@ -6,20 +6,10 @@ use Rattle.std.proofs.lemmas.List.Elements.{All-contains}
 use Rattle.card_types.proofs.LeastOfList.{found_fits, names_sorted}
 use Rattle.card_types.proofs.RaisedCounter.{counter_found, raised_found_well}
 use Rattle.card_types.proofs.SameAid.{same_aid_decides}
-use Rattle.card_types.specs.Aid.{same_aid}
-use Rattle.card_types.specs.Registry.{IsAscending, counter_order, Counter, Key, Registry, key_named}
-use Rattle.card_types.specs.Counters.{raised, raised_counter}
-use Rattle.card_types.specs.Well.{IsWellCounter, IsWellKey, Well}
+use Rattle.policy_machine.specs.Prelude.{Admitted, Counter, Fits, IsAscending, IsOfferOf, IsWellCounter, IsWellKey, IsWellOffer, Key, Offer, Registry, Volatile, Well, acting, counter_order, key_named, raised, raised_counter, same_aid, set_counter}
 use Rattle.card_types.specs.declared.limits.TheConstants.{COUNTER_LIMIT}
-use Rattle.policy_machine.specs.Admission.{Admitted}
-use Rattle.policy_machine.specs.InitializeUpdate.{IsOfferOf}
-use Rattle.policy_machine.specs.KeySets.{set_counter}
-use Rattle.policy_machine.specs.Management.{acting}
-use Rattle.policy_machine.specs.Sound.{Fits, IsWellOffer}
-use Rattle.policy_machine.specs.State.{Volatile}
 use Rattle.policy_machine.proofs.SameThings.{same_fits}
 use Rattle.scp03_card.proofs.Lengths.{length-card_challenge}
-use Rattle.scp03_card.specs.Offer.{Offer}
 
 -- a key that is found has its name
 key_found : (registry : Registry) (owner : List ℕ) (version identifier : ℕ) (key : Key) → key_named registry owner version identifier ≡ Some key

@@ -2,18 +2,13 @@
 use Rattle.std.proofs.Common.{◌≡◌, ◌⊎◌, inl, inr, ◌/◌, ◌%◌, ℕ, ◌<◌, List, [], ◌∷◌, ◌++◌, Bool, true, length, length-append, refl, sym, ap, subst, ◌∙◌, arith}
 use Rattle.std.specs.Prelude.{Contains, ◌==◌}
 use Rattle.std.proofs.lemmas.Bool.{eq-eqb, eqb-true}
-use Rattle.bertlv.specs.Spelling.{AreElements, BeginsWith, Element, Spelling}
+use Rattle.policy_machine.specs.Prelude.{AreElements, AreInstallParameters, ArePrivilegeBytes, AsksToInstall, BeginsWith, Element, InstallAsked, InstallData, IsInstallData, IsJudgeable, IsNamed, Spelling, bits_of, has_tag_in, managed_install, privilege_bytes}
 use Rattle.card_types.proofs.PrivilegeFacts.{bits_of-bytes}
-use Rattle.card_types.specs.Privileges.{ArePrivilegeBytes, IsNamed, bits_of, privilege_bytes}
 use Rattle.card_types.specs.declared.privileges.Privileges.{Privileges}
-use Rattle.policy_machine.specs.InstallApplication.{AreInstallParameters, AsksToInstall, InstallAsked, managed_install}
-use Rattle.policy_machine.specs.InstallFields.{InstallData, IsInstallData}
-use Rattle.policy_machine.specs.DataObjects.{has_tag_in}
 use Rattle.policy_machine.proofs.Filtered.{any_there, there_any}
 use Rattle.policy_machine.proofs.LengthFields.{one_data}
 use Rattle.policy_machine.proofs.StoreDataElements.{elements_behind, elements_with, none_left, one_list}
 use Rattle.policy_machine.proofs.ManagedJudging.{delegation_asked}
-use Rattle.policy_machine.specs.ManagedForm.{IsJudgeable}
 
 abbrev pub AreSome : List ℕ → Type 0
 AreSome bytes = (elements : List Element) × AreElements elements bytes
@@ -73,9 +68,4 @@ one_asked a b body one other =
     (λ i. record { given = given i; privileges = privileges i })
 
 pub install_judgeable : IsJudgeable managed_install.judged
-install_judgeable = record {
-  one_asked = λ p1 p2 body a b one other. one_asked a b body one other;
-  own = λ rule. tt;
-  one_rule = λ a b same. cc;
-  approving = delegation_asked;
-}
+install_judgeable = record { one_asked = λ p1 p2 body a b one other. one_asked a b body one other; own = λ rule. tt; one_rule = λ a b same. cc; approving = delegation_asked }

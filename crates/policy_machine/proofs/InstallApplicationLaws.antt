@@ -10,25 +10,14 @@ use Rattle.card_types.proofs.AddedThing.{entry_added_keeps}
 use Rattle.card_types.proofs.ChangeExists.{one_order}
 use Rattle.card_types.proofs.NamedThings.{beside_found, still_found}
 use Rattle.card_types.proofs.SameAid.{same_aid_decides}
-use Rattle.card_types.specs.Aid.{aid_order, same_aid}
-use Rattle.card_types.specs.ChangeLaws.{IsOfCard, MayAddEntry}
-use Rattle.card_types.specs.Privileges.{authorized_management, bits_of, delegated_management, has}
-use Rattle.card_types.specs.Registry.{Entry, Registry, entry_named, file_named, is_domain}
-use Rattle.card_types.specs.RegistryChange.{IsEntryAdded}
-use Rattle.card_types.specs.Well.{IsDomainNamed, IsProperEntry, has_domain_privilege, has_life}
+use Rattle.policy_machine.specs.Prelude.{Admitted, AsksToInstall, Entry, InstallAsked, IsDomainNamed, IsEntryAdded, IsFirst, IsOfCard, IsProperEntry, LoadSession, MayAddEntry, MayBeMade, Registry, acting, aid_order, authorized_management, bits_of, command_form, delegated_management, entry_made, entry_named, file_named, has, has_domain_privilege, has_life, is_domain, managed_install, refused_privileges, same_aid}
 use Rattle.card_types.specs.declared.factory.TheConstants.{FACTORY_FILE, FACTORY_MODULE}
 use Rattle.card_types.specs.declared.life.Life.TheVariants.{Installed, Selectable}
 use Rattle.policy_machine.proofs.FitsKept.{KeepsHeld, fits_kept, same_files, some_there}
-use Rattle.policy_machine.specs.Admission.{Admitted}
-use Rattle.policy_machine.specs.Refusal.{IsFirst}
-use Rattle.policy_machine.specs.InstallApplication.{AsksToInstall, InstallAsked, MayBeMade, entry_made, managed_install, refused_privileges}
-use Rattle.policy_machine.specs.Management.{acting}
-use Rattle.policy_machine.specs.State.{LoadSession}
 use Rattle.policy_machine.specs.declared.install_application.RuleII.TheVariants.{II2, II4, II5, II7}
 use Rattle.policy_machine.proofs.InstallApplicationAsking.{install_judgeable}
 use Rattle.policy_machine.proofs.ManagedJudging.{OwnPass, own_pass}
 use Rattle.policy_machine.proofs.ManagedLawful.{IsManagedLawful, KeepsCard, LeavesOne, receipt_judged}
-use Rattle.policy_machine.specs.ManagedForm.{command_form}
 use Rattle.policy_machine.proofs.Lawful.{none_of, sound_of_card}
 
 -- what can't be otherwise is so

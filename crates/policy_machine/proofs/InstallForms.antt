@@ -2,13 +2,7 @@
 use Rattle.std.proofs.Common.{◌≡◌, ℕ, List, [], ◌∷◌, false, refl, sym, ◌∙◌, inl, inr}
 use Rattle.std.specs.Prelude.{◌==◌}
 use Rattle.std.proofs.lemmas.Bool.{eqb-false}
-use Rattle.policy_machine.specs.CommandForm.{CommandForm}
-use Rattle.policy_machine.specs.Commands.{OneOf, Takes}
-use Rattle.policy_machine.specs.Extradition.{managed_extradition}
-use Rattle.policy_machine.specs.InstallApplication.{managed_install}
-use Rattle.policy_machine.specs.InstallLoad.{install_load}
-use Rattle.policy_machine.specs.MakeSelectable.{managed_selectable}
-use Rattle.policy_machine.specs.ManagedForm.{command_form}
+use Rattle.policy_machine.specs.Prelude.{CommandForm, OneOf, Takes, command_form, install_load, managed_extradition, managed_install, managed_selectable}
 
 -- none of the forms takes a command that this one takes
 abbrev pub AreApart : CommandForm → List CommandForm → Type 0

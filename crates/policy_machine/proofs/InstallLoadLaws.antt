@@ -2,17 +2,7 @@
 use Rattle.std.proofs.Common.{◌≡◌, ◌≢◌, inl, inr, ℕ, List, [], ◌∷◌, Option, None, length, refl, sym, subst, ◌∙◌, arith}
 use Rattle.std.specs.Prelude.{Contains}
 use Rattle.std.proofs.lemmas.Bool.Decides.{eqb_tells}
-use Rattle.card_types.specs.Aid.{IsAid}
-use Rattle.card_types.specs.Registry.{Registry, entry_named, file_named}
-use Rattle.card_types.specs.Well.{IsDomainNamed}
-use Rattle.policy_machine.specs.Admission.{Admitted}
-use Rattle.policy_machine.specs.Classes.{managing}
-use Rattle.policy_machine.specs.Commands.{Judges, JudgesAs, TakesCommand}
-use Rattle.policy_machine.specs.Refusal.{IsFirst}
-use Rattle.policy_machine.specs.InstallLoad.{InstallLoadEffect, LoadData, install_load, load_begun, named_or, judged_install_load}
-use Rattle.policy_machine.specs.Management.{acting}
-use Rattle.policy_machine.specs.Sound.{Fits, IsHashLength, IsSound, IsWellLoad}
-use Rattle.policy_machine.specs.State.{Effect, Volatile, with_load}
+use Rattle.policy_machine.specs.Prelude.{Admitted, Effect, Fits, InstallLoadEffect, IsAid, IsDomainNamed, IsFirst, IsHashLength, IsJudgeable, IsSound, IsWellLoad, Judges, JudgesAs, LoadData, Registry, TakesCommand, Volatile, acting, entry_named, file_named, install_load, judged_install_load, load_begun, managing, named_or, with_load}
 use Rattle.policy_machine.specs.declared.install_load.RuleIL.TheVariants.{IL3, IL4, IL6, IL7}
 use Rattle.policy_machine.specs.declared.rule.Rule.{Rule}
 use Rattle.policy_machine.proofs.Instructed.{among}
@@ -22,7 +12,6 @@ use Rattle.policy_machine.proofs.Lawful.{HasNoPlaceOn, IsLawful, IsReady, manage
 use Rattle.policy_machine.proofs.LengthFields.{one_load_data}
 use Rattle.policy_machine.proofs.SameEffect.{effect_same, state_same}
 use Rattle.policy_machine.proofs.ManagedJudging.{OwnPass, own_pass}
-use Rattle.policy_machine.specs.ManagedForm.{IsJudgeable}
 
 -- a length that can't be none of a hash is one
 hash_stable : (size : ℕ) → ((IsHashLength size → ⊥) → ⊥) → IsHashLength size
@@ -49,12 +38,7 @@ domain_given registry (byte ∷ bytes) other domain passes =
     domain_stable (entry_named registry (byte ∷ bytes)) (λ none. passes ((λ same. cc), none))
 
 pub load_install_judgeable : IsJudgeable judged_install_load
-load_install_judgeable = record {
-  one_asked = λ p1 p2 body a b one other. one_load_data a b body one.fields other.fields;
-  own = λ rule. tt;
-  one_rule = λ a b same. cc;
-  approving = (tt, (tt, (tt, tt)));
-}
+load_install_judgeable = record { one_asked = λ p1 p2 body a b one other. one_load_data a b body one.fields other.fields; own = λ rule. tt; one_rule = λ a b same. cc; approving = (tt, (tt, (tt, tt))) }
 
 -- the load session that begins goes with the registry
 begun_well : (admitted : Admitted) (given : LoadData) → IsAid given.file → IsReady admitted → admitted.command.ins ≡ install_load.instruction

@@ -2,11 +2,7 @@
 use Rattle.std.proofs.Common.{◌≡◌, ◌≢◌, ℕ, Bool, List, [], ◌∷◌, ◌++◌, Option, None, Some, inl, inr, sym, ap, subst, ◌∙◌}
 use Rattle.std.proofs.lemmas.Bool.{ne_eqb}
 use Rattle.std.specs.Prelude.{if◌then◌else◌}
-use Rattle.policy_machine.specs.Admission.{Admitted}
-use Rattle.policy_machine.specs.CommandForm.{CommandForm}
-use Rattle.policy_machine.specs.Commands.{FormFails, JudgesAs, JudgesForm, OneOf, TakesCommand, form_rules, forms_of}
-use Rattle.policy_machine.specs.Refusal.{IsFirst}
-use Rattle.policy_machine.specs.OwnRules.{AlikeAreJudgedAlike, AreAlike}
+use Rattle.policy_machine.specs.Prelude.{Admitted, AlikeAreJudgedAlike, AreAlike, CommandForm, FormFails, IsFirst, JudgesAs, JudgesForm, OneOf, TakesCommand, form_rules, forms_of}
 use Rattle.policy_machine.specs.declared.external_authenticate.RuleEA.TheVariants.{EA1}
 use Rattle.policy_machine.specs.declared.instruction.TheConstants.{EXTERNAL_AUTHENTICATE, PUT_KEY}
 use Rattle.policy_machine.specs.declared.rule.Rule.{Rule}

@@ -2,13 +2,7 @@
 use Rattle.std.proofs.Common.{◌≡◌, ℕ, List, [], ◌∷◌, Option, None, Some, Result, Ok, Err, refl, sym, ap, subst, ◌∙◌, inl, inr}
 use Rattle.std.specs.Prelude.{IfErr, OnOk}
 use Rattle.std.specs.Result.{result_err}
-use Rattle.policy_machine.specs.Admission.{Admitted}
-use Rattle.policy_machine.specs.CommandForm.{CommandForm}
-use Rattle.policy_machine.specs.Commands.{HasEffect, FormFails, TakesCommand, Judges, OneOf, forms_of}
-use Rattle.policy_machine.specs.ExternalAuthenticate.{rules_before_form}
-use Rattle.policy_machine.specs.Refusal.{IsFirst}
-use Rattle.policy_machine.specs.Malformed.{IsMalformed}
-use Rattle.policy_machine.specs.State.{Effect}
+use Rattle.policy_machine.specs.Prelude.{Admitted, CommandForm, Effect, FormFails, HasEffect, IsFirst, IsMalformed, Judges, OneOf, TakesCommand, forms_of, rules_before_form}
 use Rattle.policy_machine.specs.declared.rule.Rule.{Rule}
 use Rattle.policy_machine.specs.declared.rule.Rule.TheVariants.{PS}
 use Rattle.policy_machine.specs.declared.rule.RulePS.TheVariants.{P, S}

@@ -1,15 +1,7 @@
 -- A card that is powered on is sound, and each step keeps it so.
 use Rattle.std.proofs.Common.{◌≡◌, ℕ, zero, suc, List, false, refl, sym, ap, subst, inl, inr}
 use Rattle.std.specs.Prelude.{MatchOption}
-use Rattle.apdu_core.specs.Apdu.{Apdu}
-use Rattle.card_types.specs.Registry.{Registry}
-use Rattle.card_types.specs.Well.{IsDomainNamed, Well}
-use Rattle.policy_machine.specs.Admission.{Admits, Admitted, GeneralRefusalLeaves, class_passed}
-use Rattle.policy_machine.specs.Classes.{channel_of}
-use Rattle.policy_machine.specs.Laws.{StartsSound, StepsKeepSound}
-use Rattle.policy_machine.specs.Sound.{Fits, IsSound, IsWellChannel}
-use Rattle.policy_machine.specs.State.{State, Nothing, Volatile, channel_at, first_volatile, with_offer_dropped, without_session, without_load}
-use Rattle.policy_machine.specs.Step.{Outcome, keeps_load, refusal_leaves}
+use Rattle.policy_machine.specs.Prelude.{Admits, Admitted, Apdu, Fits, GeneralRefusalLeaves, IsDomainNamed, IsSound, IsWellChannel, Nothing, Outcome, Registry, StartsSound, State, StepsKeepSound, Volatile, Well, channel_at, channel_of, class_passed, first_volatile, keeps_load, refusal_leaves, with_offer_dropped, without_load, without_session}
 use Rattle.policy_machine.specs.declared.rule.RuleG.{RuleG}
 use Rattle.policy_machine.specs.declared.rule.RuleG.TheVariants.{G1, G2, G3, G4, G5, G6, G7, G8}
 use Rattle.policy_machine.proofs.Opened.{passed_protected}

@@ -4,9 +4,7 @@ use Rattle.std.specs.Prelude.{All}
 use Rattle.std.specs.List.{concat}
 use Rattle.std.proofs.lemmas.List.{drop-drop, drop_at, drop_more, get_or_append_left, get_or_at, length-drop, nil_from_length, length-take-le, take-append-drop, take_at}
 use Rattle.std.proofs.lemmas.List.Elements.{All-cons, All-head, All-nil, All-tail}
-use Rattle.policy_machine.specs.KeyFields.{AreFields, BeginsWithKey, NoFields}
-use Rattle.card_types.specs.Well.{IsKeyLength}
-use Rattle.policy_machine.specs.PutKey.{AreOfOneLength, HasFieldLengths, SentKey, key_field, sealed_size}
+use Rattle.policy_machine.specs.Prelude.{AreFields, AreOfOneLength, BeginsWithKey, HasFieldLengths, IsKeyLength, NoFields, SentKey, key_field, sealed_size}
 
 -- the places of the bytes that are the same in each field of a key of this length
 pub record HasMarks (size : ℕ) (bytes : List ℕ) : Type 0 where

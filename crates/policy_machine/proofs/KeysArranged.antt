@@ -16,12 +16,7 @@ use Rattle.card_types.proofs.Members.{contains_cases, filtered}
 use Rattle.card_types.proofs.NotAbove.{then_equal}
 use Rattle.card_types.proofs.SameAid.{aid_equal_same, same_aid_decides}
 use Rattle.card_types.proofs.SetMembers.{key_there}
-use Rattle.card_types.specs.Aid.{aid_order, same_aid}
-use Rattle.card_types.specs.Registry.{IsAscending, counter_order, key_order, Counter, Key, Registry}
-use Rattle.card_types.specs.Well.{IsWellCounter, Well}
-use Rattle.policy_machine.specs.Arranged.{IsArranged}
-use Rattle.policy_machine.specs.KeySets.{counters_but, has_key_version, is_counter_numbered, is_key_numbered, keys_but}
-use Rattle.policy_machine.specs.PutKey.{counters_from, keys_from}
+use Rattle.policy_machine.specs.Prelude.{Counter, IsArranged, IsAscending, IsWellCounter, Key, Registry, Well, aid_order, counter_order, counters_but, counters_from, has_key_version, is_counter_numbered, is_key_numbered, key_order, keys_but, keys_from, same_aid}
 use Rattle.policy_machine.proofs.Filtered.{any_there, filter_sorted}
 
 module _ {X : Type 0} (order : X → X → Ordering) (total : IsTotalOrder order) where

@@ -1,19 +1,8 @@
 -- What is asked of a command.
 use Rattle.std.proofs.Common.{◌≡◌, ◌≢◌, ◌⊎◌, ℕ, ◌<◌, ◌≤◌, false, Option, None, Some, refl, sym, ap, subst, ◌∙◌, inl, inr, arith}
 use Rattle.std.specs.Prelude.{◌==◌, Contains, IsSome, MatchOption}
-use Rattle.card_types.specs.Registry.{IsAscending, Registry}
-use Rattle.card_types.specs.ChangeLaws.{IsOfCard}
-use Rattle.card_types.specs.Well.{IsDomainNamed, Well}
-use Rattle.apdu_core.specs.Apdu.{Apdu}
-use Rattle.policy_machine.specs.Admission.{Admitted}
-use Rattle.policy_machine.specs.Classes.{managing}
-use Rattle.policy_machine.specs.Commands.{JudgesAs, TakesCommand}
-use Rattle.policy_machine.specs.Management.{acting}
-use Rattle.policy_machine.specs.Sound.{Fits, IsSound}
-use Rattle.policy_machine.specs.State.{Effect, State, Channel, LoadSession, SecureChannel, Volatile, channel_at, load_without_channel, place_in, channel_with, with_channel, with_secure_channel}
+use Rattle.policy_machine.specs.Prelude.{Admitted, Apdu, Channel, CommandForm, Effect, Fits, IsAscending, IsDomainNamed, IsOfCard, IsSameButCounters, IsSound, JudgesAs, LoadSession, Registry, SecureChannel, State, TakesCommand, Volatile, Well, acting, channel_at, channel_with, load_without_channel, managing, place_in, with_channel, with_secure_channel}
 use Rattle.policy_machine.specs.declared.instruction.TheConstants.{GET_STATUS, INSTALL, LOAD, MANAGE_CHANNEL, SELECT}
-use Rattle.policy_machine.specs.Changes.{IsSameButCounters}
-use Rattle.policy_machine.specs.CommandForm.{CommandForm}
 use Rattle.std.proofs.lemmas.Bool.Decides.{eqb_tells}
 use Rattle.policy_machine.proofs.SetChannel.{HasSession, set_other, set_there}
 

@@ -3,9 +3,7 @@ use Rattle.std.proofs.Common.{◌≡◌, ℕ, suc, ◌≤◌, List, [], ◌∷�
 use Rattle.std.specs.List.{flat_map}
 use Rattle.std.proofs.lemmas.List.{drop_at, nil_from_length, take_at}
 use Rattle.std.proofs.lemmas.List.Elements.{All-cons, All-head, All-nil, All-tail}
-use Rattle.tokens_receipts.specs.Receipt.{with_length}
-use Rattle.policy_machine.specs.InstallFields.{BeginsWithField, AreLengthFields, InstallData, IsInstallData, signed_fields}
-use Rattle.policy_machine.specs.InstallLoad.{IsLoadData, LoadData, signed_load_fields}
+use Rattle.policy_machine.specs.Prelude.{AreLengthFields, BeginsWithField, InstallData, IsInstallData, IsLoadData, LoadData, signed_fields, signed_load_fields, with_length}
 
 abbrev pub IsShort : List ℕ → Type 0
 IsShort field = length field ≤ 0x7F

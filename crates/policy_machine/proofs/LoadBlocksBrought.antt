@@ -2,8 +2,7 @@
 use Rattle.std.proofs.Common.{◌≡◌, ◌≢◌, ℕ, ◌≤◌, List, ◌∷◌, ◌++◌, Option, None, Some, sym, ◌∙◌, inl, inr, arith}
 use Rattle.std.proofs.lemmas.Bool.{cases_lt}
 use Rattle.bertlv.proofs.LengthLemmas.{length_front}
-use Rattle.policy_machine.specs.LoadBlocks.{Announces, Block, BringsBytes}
-use Rattle.policy_machine.specs.Sound.{IsAnnounced}
+use Rattle.policy_machine.specs.Prelude.{Announces, Block, BringsBytes, IsAnnounced}
 
 one_announced : (field : List ℕ) (m n : ℕ) (a b : List ℕ) → Announces field m a → Announces field n b → (m ≡ n) × (a ≡ b)
 one_announced field m n a b one other =

@@ -7,22 +7,8 @@ use Rattle.std.proofs.lemmas.Cmp.{nat_list_cmp_total, on_total}
 use Rattle.std.proofs.lemmas.List.Sorted.{IsPermutation-sym, IsPermutation-trans}
 use Rattle.card_types.proofs.AddedThing.{file_added_keeps}
 use Rattle.card_types.proofs.ChangeExists.{one_order}
-use Rattle.card_types.specs.Aid.{aid_order}
-use Rattle.card_types.specs.ChangeLaws.{IsOfCard, MayAddFile}
-use Rattle.card_types.specs.Privileges.{delegated_management}
-use Rattle.card_types.specs.Registry.{LoadFile, Registry}
-use Rattle.card_types.specs.RegistryChange.{IsFileAdded}
-use Rattle.card_types.specs.Well.{pages_of}
+use Rattle.policy_machine.specs.Prelude.{Admitted, BringsBytes, Effect, EndsLoad, Fits, GoesOn, Holds, IsAnswered, IsFileAdded, IsFirst, IsLoadOn, IsOfCard, IsSound, IsWellLoad, JudgesAs, LoadEffect, LoadFails, LoadFile, LoadSession, LoadingFails, MayAddFile, ReceiptFails, Registry, Volatile, aid_order, block_of, delegated_management, file_of_load, load_rules, load_without_channel, loading, managing, pages_of, pages_used, unconfirmed, with_block, without_load}
 use Rattle.card_types.specs.declared.limits.TheConstants.{FILE_LIMIT, LOAD_PAGES}
-use Rattle.policy_machine.specs.Admission.{Admitted}
-use Rattle.policy_machine.specs.Classes.{managing}
-use Rattle.policy_machine.specs.Commands.{JudgesAs}
-use Rattle.policy_machine.specs.Delegation.{Holds, IsAnswered, ReceiptFails, unconfirmed}
-use Rattle.policy_machine.specs.Refusal.{IsFirst}
-use Rattle.policy_machine.specs.Load.{EndsLoad, GoesOn, IsLoadOn, LoadEffect, LoadFails, LoadingFails, block_of, file_of_load, load_rules, loading}
-use Rattle.policy_machine.specs.LoadBlocks.{BringsBytes, pages_used, with_block}
-use Rattle.policy_machine.specs.Sound.{Fits, IsSound, IsWellLoad}
-use Rattle.policy_machine.specs.State.{Effect, LoadSession, Volatile, load_without_channel, without_load}
 use Rattle.policy_machine.specs.declared.delegation.RuleRC.TheVariants.{RC1}
 use Rattle.policy_machine.specs.declared.load.RuleLO.{RuleLO}
 use Rattle.policy_machine.specs.declared.load.RuleLO.TheVariants.{LO1, LO2, LO3, LO4, LO5, LO6, LO7, LO8}

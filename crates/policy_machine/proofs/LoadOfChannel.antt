@@ -1,8 +1,6 @@
 -- What is said of the load session of a channel holds of the one that is there.
 use Rattle.std.proofs.Common.{sym, subst, ◌∙◌}
-use Rattle.policy_machine.specs.Admission.{Admitted}
-use Rattle.policy_machine.specs.Load.{InLoad, IsLoadOn}
-use Rattle.policy_machine.specs.State.{LoadSession}
+use Rattle.policy_machine.specs.Prelude.{Admitted, InLoad, IsLoadOn, LoadSession}
 use Rattle.policy_machine.proofs.Lawful.{some_same}
 
 -- it holds of the load session of the channel

@@ -1,12 +1,6 @@
 -- LOAD raises receipt numbers as it should: the last block is confirmed, and no other.
 use Rattle.std.proofs.Common.{◌≡◌, ◌⊎◌, inl, inr, ℕ, List, refl, ap, sym, ◌∙◌, arith}
-use Rattle.card_types.specs.Privileges.{delegated_management}
-use Rattle.card_types.specs.Registry.{Registry}
-use Rattle.policy_machine.specs.Admission.{Admitted}
-use Rattle.policy_machine.specs.Delegation.{Holds, unconfirmed}
-use Rattle.policy_machine.specs.Load.{EndsLoad, GoesOn, LoadConfirms, LoadEffect, about_load, loading}
-use Rattle.policy_machine.specs.LoadBlocks.{with_block}
-use Rattle.policy_machine.specs.State.{Effect, LoadSession}
+use Rattle.policy_machine.specs.Prelude.{Admitted, Effect, EndsLoad, GoesOn, Holds, LoadConfirms, LoadEffect, LoadSession, Registry, about_load, delegated_management, loading, unconfirmed, with_block}
 use Rattle.policy_machine.proofs.AnsweredRises.{AllRise, answered_rises, none_rises}
 use Rattle.policy_machine.proofs.Lawful.{some_same}
 use Rattle.policy_machine.proofs.NumbersKept.{same_numbers}

@@ -4,17 +4,7 @@ use Rattle.std.specs.Prelude.{Contains}
 use Rattle.std.proofs.lemmas.List.Sorted.{Contains-permutation}
 use Rattle.card_types.proofs.Members.{contains_later}
 use Rattle.card_types.proofs.NamedThings.{new_or_old}
-use Rattle.card_types.specs.Privileges.{delegated_management}
-use Rattle.card_types.specs.Registry.{Key, LoadFile, Object, Registry}
-use Rattle.card_types.specs.RegistryChange.{IsFileAdded}
-use Rattle.policy_machine.specs.Admission.{Admitted}
-use Rattle.policy_machine.specs.Charge.{IsAtOrAbove}
-use Rattle.policy_machine.specs.Classes.{changing}
-use Rattle.policy_machine.specs.Delegation.{Holds, unconfirmed}
-use Rattle.policy_machine.specs.Load.{EndsLoad, GoesOn, LoadEffect, LoadingFails, about_load, file_of_load, loading}
-use Rattle.policy_machine.specs.LoadBlocks.{with_block}
-use Rattle.policy_machine.specs.Management.{acting}
-use Rattle.policy_machine.specs.State.{Effect}
+use Rattle.policy_machine.specs.Prelude.{Admitted, Effect, EndsLoad, GoesOn, Holds, IsAtOrAbove, IsFileAdded, Key, LoadEffect, LoadFile, LoadingFails, Object, Registry, about_load, acting, changing, delegated_management, file_of_load, loading, unconfirmed, with_block}
 use Rattle.policy_machine.specs.declared.load.RuleLO.TheVariants.{LO7}
 use Rattle.policy_machine.proofs.AnsweredSpares.{answered_spares}
 use Rattle.policy_machine.proofs.LoadLaws.{no_rule}

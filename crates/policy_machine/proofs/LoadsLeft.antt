@@ -1,7 +1,5 @@
 -- A load session is left, or it ends, but for the commands that load.
-use Rattle.policy_machine.specs.Admission.{Admitted}
-use Rattle.policy_machine.specs.Commands.{HasEffect}
-use Rattle.policy_machine.specs.State.{Effect}
+use Rattle.policy_machine.specs.Prelude.{Admitted, Effect, HasEffect}
 use Rattle.policy_machine.proofs.FormTaken.{done_by}
 use Rattle.policy_machine.proofs.Lawful.{IsLoading, LoadStays}
 

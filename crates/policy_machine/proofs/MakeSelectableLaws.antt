@@ -2,24 +2,15 @@
 use Rattle.std.proofs.Common.{◌≡◌, ◌≢◌, Option, None, Some, true, false, refl, ap, sym, subst, ◌∙◌, arith}
 use Rattle.std.specs.Prelude.{IfSome, MatchOption}
 use Rattle.card_types.proofs.LifeChanges.{life_keeps}
-use Rattle.card_types.specs.Aid.{same_aid}
-use Rattle.card_types.specs.ChangeLaws.{IsOfCard, MayHaveLife}
-use Rattle.card_types.specs.Registry.{Entry, entry_named, is_domain}
-use Rattle.card_types.specs.RegistryChange.{with_life}
-use Rattle.card_types.specs.Well.{IsIssuerDomain, Well, has_life}
+use Rattle.policy_machine.specs.Prelude.{Admitted, AsksToMakeSelectable, Entry, InstallData, IsFirst, IsIssuerDomain, IsJudgeable, IsOfCard, MakingSelectableFails, MayHaveLife, Well, command_form, entry_named, has_life, is_domain, is_installed, managed_selectable, same_aid, with_life}
 use Rattle.card_types.specs.declared.factory.TheConstants.{ISSUER}
 use Rattle.card_types.specs.declared.life.Life.TheVariants.{Selectable}
 use Rattle.card_types.specs.declared.life.LifeMark.{LifeMark}
-use Rattle.policy_machine.specs.Admission.{Admitted}
-use Rattle.policy_machine.specs.Refusal.{IsFirst}
-use Rattle.policy_machine.specs.InstallFields.{InstallData}
-use Rattle.policy_machine.specs.MakeSelectable.{AsksToMakeSelectable, MakingSelectableFails, is_installed, managed_selectable}
 use Rattle.policy_machine.specs.declared.make_selectable.RuleMS.TheVariants.{MS2, MS4}
 use Rattle.policy_machine.proofs.ChangedFits.{changed_fits}
 use Rattle.policy_machine.proofs.Lawful.{sound_of_card}
 use Rattle.policy_machine.proofs.LengthFields.{one_data}
 use Rattle.policy_machine.proofs.ManagedJudging.{OwnPass, own_pass, delegation_asked}
-use Rattle.policy_machine.specs.ManagedForm.{IsJudgeable, command_form}
 use Rattle.policy_machine.proofs.ManagedLawful.{IsManagedLawful, leaves_one, receipt_judged}
 
 abbrev pub selectable_life : LifeMark
@@ -45,12 +36,7 @@ module _ (admitted : Admitted) (given : InstallData) (well : Well admitted.at.re
       any (Some entry) = refl
 
 pub selectable_judgeable : IsJudgeable managed_selectable.judged
-selectable_judgeable = record {
-  one_asked = λ p1 p2 body a b one other. one_data a b body one.fields other.fields;
-  own = λ rule. tt;
-  one_rule = λ a b same. cc;
-  approving = delegation_asked;
-}
+selectable_judgeable = record { one_asked = λ p1 p2 body a b one other. one_data a b body one.fields other.fields; own = λ rule. tt; one_rule = λ a b same. cc; approving = delegation_asked }
 
 -- its own rules leave the application selectable
 module _ (admitted : Admitted) (given : InstallData) (of : IsOfCard admitted.at.registry) (own : OwnPass managed_selectable.judged admitted given) where

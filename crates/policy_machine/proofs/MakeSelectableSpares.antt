@@ -1,13 +1,8 @@
 -- INSTALL [for make selectable] spares the trees in which the acting domain is not: the application is below it.
 use Rattle.std.proofs.Common.{◌≡◌, inr, ℕ, false, List, refl, sym, subst, arith}
 use Rattle.card_types.proofs.NamedThings.{aid_differs}
-use Rattle.card_types.specs.Aid.{same_aid}
-use Rattle.card_types.specs.Registry.{Registry}
+use Rattle.policy_machine.specs.Prelude.{IsAboveIn, IsAtOrAbove, Registry, acting, managed_selectable, same_aid}
 use Rattle.card_types.specs.declared.life.Life.TheVariants.{Selectable}
-use Rattle.domain_tree.specs.Above.{IsAboveIn}
-use Rattle.policy_machine.specs.Charge.{IsAtOrAbove}
-use Rattle.policy_machine.specs.MakeSelectable.{managed_selectable}
-use Rattle.policy_machine.specs.Management.{acting}
 use Rattle.policy_machine.specs.declared.make_selectable.RuleMS.TheVariants.{MS3}
 use Rattle.policy_machine.proofs.SparingForms.{IsManagedSparing}
 use Rattle.policy_machine.proofs.TreeKept.{SparesTree, out_of_reach}

@@ -2,17 +2,12 @@
 use Rattle.std.proofs.Common.{◌≡◌, ◌⊎◌, ℕ, ◌≤◌, Option, None, Some, refl, sym, ap, subst, ◌∙◌, inl, inr, arith}
 use Rattle.std.specs.Prelude.{MatchOption}
 use Rattle.card_types.specs.declared.factory.TheConstants.{ISSUER}
-use Rattle.policy_machine.specs.Admission.{Admitted}
-use Rattle.policy_machine.specs.ManageChannel.{IsClosed, IsClosedAlready, IsOpened, ManageChannelEffect, ManageChannelParameters, lowest_closed, manage_channel}
-use Rattle.policy_machine.specs.Sound.{IsSound}
-use Rattle.policy_machine.specs.State.{Effect, Channel, channel_at, fresh}
+use Rattle.policy_machine.specs.Prelude.{Admitted, Channel, Effect, IsClosed, IsClosedAlready, IsOpened, IsSameButCounters, IsSound, Judges, ManageChannelEffect, ManageChannelParameters, TakesCommand, channel_at, fresh, lowest_closed, manage_channel}
 use Rattle.policy_machine.proofs.SetChannel.{IsInSession, ended_fits, lowest_is_closed, set_fits}
 use Rattle.policy_machine.proofs.SecureChannelSet.{within}
-use Rattle.policy_machine.specs.Changes.{IsSameButCounters}
 use Rattle.policy_machine.proofs.Lawful.{HasNoPlaceOn, IsLawful, LoadStays, found_so, load_ended, placeless_set, same_as, sound_with}
 use Rattle.policy_machine.proofs.FreshChannel.{issuer_is_well}
 use Rattle.policy_machine.proofs.Judging.{judged}
-use Rattle.policy_machine.specs.Commands.{TakesCommand, Judges}
 use Rattle.policy_machine.specs.declared.rule.Rule.TheVariants.{MC}
 use Rattle.policy_machine.specs.declared.manage_channel.RuleMC.{RuleMC}
 use Rattle.policy_machine.specs.declared.manage_channel.RuleMC.TheVariants.{MC1}

@@ -3,16 +3,12 @@ use Rattle.std.proofs.Common.{◌≡◌, List, [], ◌∷◌, ◌++◌, Option, 
 use Rattle.std.specs.Prelude.{Contains, map}
 use Rattle.std.proofs.lemmas.List.Elements.{Contains-append_left, Contains-append_right}
 use Rattle.card_types.proofs.Members.{contains_cases, contains_map}
-use Rattle.policy_machine.specs.Admission.{Admitted}
-use Rattle.policy_machine.specs.Refusal.{IsFirst}
-use Rattle.policy_machine.specs.ManagedForm.{AskedFails, CommandAsks, JudgedFails, JudgedForm, OwnFirst, IsJudgeable, IsOnAsked, IsOwn, OfEach}
-use Rattle.policy_machine.specs.Management.{ManagementFails}
+use Rattle.policy_machine.specs.Prelude.{Admitted, AskedFails, CommandAsks, IsFirst, IsJudgeable, IsOnAsked, IsOwn, JudgedFails, JudgedForm, ManagementFails, OfEach, OwnFirst, delegation_rules}
 use Rattle.policy_machine.specs.declared.management.RuleM.{RuleM}
 use Rattle.policy_machine.specs.declared.rule.Rule.{Rule}
 use Rattle.policy_machine.specs.declared.rule.Rule.TheVariants.{M, RC, TK}
 use Rattle.policy_machine.proofs.FirstJoined.{first_behind, first_within}
 use Rattle.policy_machine.proofs.FirstUnique.{none_fails}
-use Rattle.policy_machine.specs.Delegation.{delegation_rules}
 use Rattle.std.specs.Option.{option_map}
 
 of_each : {R : Type 0} (holds : R → Type 0) (rules : List R) (rule : R) → OfEach holds rules → Contains rules rule → holds rule

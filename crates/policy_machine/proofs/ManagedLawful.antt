@@ -2,17 +2,7 @@
 use Rattle.std.proofs.Common.{◌≡◌, ℕ, List, None, refl, sym, subst, ◌∙◌, arith, inr}
 use Rattle.std.specs.Prelude.{Contains, nat_lt}
 use Rattle.std.proofs.lemmas.Bool.{ltb-true}
-use Rattle.card_types.specs.ChangeLaws.{IsOfCard}
-use Rattle.card_types.specs.Registry.{Registry}
-use Rattle.card_types.specs.Well.{IsDomainNamed}
-use Rattle.policy_machine.specs.Admission.{Admitted}
-use Rattle.policy_machine.specs.Classes.{managing}
-use Rattle.policy_machine.specs.Commands.{JudgesAs}
-use Rattle.policy_machine.specs.Delegation.{IsAnswered, ReceiptFails, delegation_rules}
-use Rattle.policy_machine.specs.ManagedForm.{CommandAsks, JudgedForm, ManagedEffect, ManagedForm, command_form, IsJudgeable}
-use Rattle.policy_machine.specs.Management.{acting}
-use Rattle.policy_machine.specs.Sound.{Fits, IsSound}
-use Rattle.policy_machine.specs.State.{Effect}
+use Rattle.policy_machine.specs.Prelude.{Admitted, CommandAsks, Effect, Fits, IsAnswered, IsDomainNamed, IsJudgeable, IsOfCard, IsSound, JudgedForm, JudgesAs, ManagedEffect, ManagedForm, ReceiptFails, Registry, acting, command_form, delegation_rules, managing}
 use Rattle.policy_machine.specs.declared.delegation.RuleRC.TheVariants.{RC1}
 use Rattle.policy_machine.specs.declared.rule.Rule.TheVariants.{RC}
 use Rattle.policy_machine.proofs.AnsweredKeeps.{answered_fits, answered_keeps, answered_once}

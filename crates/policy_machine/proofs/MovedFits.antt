@@ -7,13 +7,8 @@ use Rattle.std.proofs.lemmas.Bool.{cond_both}
 use Rattle.std.proofs.lemmas.List.{length-map}
 use Rattle.std.proofs.lemmas.List.Sums.{sum-map}
 use Rattle.card_types.proofs.MappedEntries.{find_mapped, names_mapped, some_keep}
-use Rattle.card_types.specs.Aid.{same_aid}
-use Rattle.card_types.specs.Registry.{Entry, LoadFile, Registry}
-use Rattle.card_types.specs.RegistryChange.{moved}
-use Rattle.card_types.specs.Well.{pages_of}
+use Rattle.policy_machine.specs.Prelude.{Entry, Fits, LoadFile, Registry, Volatile, moved, pages_of, same_aid}
 use Rattle.policy_machine.proofs.ChangedFits.{mapped_fits}
-use Rattle.policy_machine.specs.Sound.{Fits}
-use Rattle.policy_machine.specs.State.{Volatile}
 
 abbrev size : LoadFile → ℕ
 size file = pages_of (length file.bytes)

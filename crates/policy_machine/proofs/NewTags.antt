@@ -2,8 +2,7 @@
 use Rattle.std.proofs.Common.{◌≡◌, inl, inr, ℕ, ◌+◌, Bool, true, false, cond, ◌||◌, ◌&&◌, ◌==◌, List, [], ◌∷◌, ap, sym, ◌∙◌, arith}
 use Rattle.std.specs.Prelude.{not}
 use Rattle.std.proofs.lemmas.Bool.{cases_Bool, cases_eq, eq-eqb, ne_eqb}
-use Rattle.bertlv.specs.Spelling.{Element}
-use Rattle.policy_machine.specs.DataObjects.{has_tag_in, new_tags}
+use Rattle.policy_machine.specs.Prelude.{Element, has_tag_in, new_tags}
 
 abbrev pub count_if : Bool → ℕ
 count_if b = cond b 1 0

@@ -4,11 +4,7 @@ use Rattle.std.specs.Prelude.{find, map}
 use Rattle.std.specs.Option.{option_map}
 use Rattle.card_types.proofs.MappedEntries.{find_mapped}
 use Rattle.card_types.proofs.NamedThings.{aid_cases, beside_found}
-use Rattle.card_types.specs.Aid.{same_aid}
-use Rattle.card_types.specs.ChangeLaws.{IsOfCard, IsFreeAid}
-use Rattle.card_types.specs.Registry.{Entry, Registry, entry_named}
-use Rattle.card_types.specs.RegistryChange.{IsEntryAdded}
-use Rattle.policy_machine.specs.Receipts.{number_of}
+use Rattle.policy_machine.specs.Prelude.{Entry, IsEntryAdded, IsFreeAid, IsOfCard, Registry, entry_named, number_of, same_aid}
 use Rattle.policy_machine.proofs.Lawful.{some_same}
 
 -- who is named before and after has the same number

@@ -1,18 +1,6 @@
 -- A receipt number rises by one with each command that its domain confirms, and with no other.
 use Rattle.std.proofs.Common.{◌≡◌, inl, inr, ℕ, ◌+◌, List, [], ◌∷◌, Some, ap, sym, subst, ◌∙◌}
-use Rattle.card_types.specs.Registry.{Key, Registry}
-use Rattle.tokens_receipts.specs.Receipt.{receipt}
-use Rattle.policy_machine.specs.Admission.{Admitted}
-use Rattle.policy_machine.specs.CommandForm.{CommandForm}
-use Rattle.policy_machine.specs.Commands.{OneOf, TakesCommand, forms_of}
-use Rattle.policy_machine.specs.Delegation.{IsReceipter, unique_data}
-use Rattle.policy_machine.specs.Laws.{NumbersRise, NumbersRiseInRuns}
-use Rattle.policy_machine.specs.Management.{acting}
-use Rattle.policy_machine.specs.Receipts.{Confirms, IsReceiptedBy, RepliesReceipt, number_of}
-use Rattle.policy_machine.specs.Run.{Command, Reset}
-use Rattle.policy_machine.specs.Sound.{IsSound}
-use Rattle.policy_machine.specs.State.{Effect, State, powered_on}
-use Rattle.policy_machine.specs.Step.{IsAccepted, Outcome, sent}
+use Rattle.policy_machine.specs.Prelude.{Admitted, Command, CommandForm, Confirms, Effect, IsAccepted, IsReceiptedBy, IsReceipter, IsSound, Key, NumbersRise, NumbersRiseInRuns, OneOf, Outcome, Registry, RepliesReceipt, Reset, State, TakesCommand, acting, forms_of, number_of, powered_on, receipt, sent, unique_data}
 use Rattle.policy_machine.specs.declared.rule.Rule.{Rule}
 use Rattle.policy_machine.proofs.AllForms.{all_forms}
 use Rattle.policy_machine.proofs.FormLaws.{FormLaws}

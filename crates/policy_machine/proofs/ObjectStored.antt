@@ -9,7 +9,7 @@ use Rattle.std.specs.declared.cmp.Ordering.TheVariants.{Equal}
 use Rattle.std.proofs.lemmas.Bool.{and_from, and_parts, cases_Bool, or_parts, eq-eqb, eqb-true}
 use Rattle.std.proofs.lemmas.List.Sorted.{IsPermutation-cons, IsPermutation-middle, IsPermutation-refl, IsPermutation-sym, IsPermutation-trans}
 use Rattle.std.proofs.lemmas.Map.Lookups.{exact_unsigned}
-use Rattle.bertlv.specs.Spelling.{Element}
+use Rattle.policy_machine.specs.Prelude.{Element, IsArranged, IsChanged, Object, aid_order, is_object_of, object_order, same_aid, with_object, with_objects}
 use Rattle.card_types.proofs.AtMostOnce.{once_from_sorted, without_first}
 use Rattle.card_types.proofs.ChangeExists.{put_in, put_in_place}
 use Rattle.card_types.proofs.LeastOfList.{first_below, found_fits, none_fits, none_found, others_sorted}
@@ -17,12 +17,7 @@ use Rattle.card_types.proofs.NotAbove.{then_equal}
 use Rattle.card_types.proofs.ObjectNames.{object_order_total}
 use Rattle.card_types.proofs.SameAid.{aid_equal_same, aid_same_equal, same_aid_decides}
 use Rattle.card_types.proofs.SetNames.{same_number}
-use Rattle.card_types.specs.Aid.{aid_order, same_aid}
-use Rattle.card_types.specs.Registry.{object_order, Object}
-use Rattle.card_types.specs.RegistryChange.{IsChanged}
 use Rattle.policy_machine.proofs.Filtered.{filter_same}
-use Rattle.policy_machine.specs.Arranged.{IsArranged}
-use Rattle.policy_machine.specs.DataObjects.{is_object_of, with_object, with_objects}
 
 module _ {X : Type 0} (p : X → Bool) where
   -- where none is found, all are kept

@@ -2,12 +2,7 @@
 use Rattle.std.proofs.Common.{◌≡◌, ℕ, Bool, false, true, Option, None, Some, refl, sym, subst, inl, inr, ap}
 use Rattle.std.specs.Prelude.{MatchOption, not, ◌==◌}
 use Rattle.std.proofs.lemmas.Bool.{and_parts, false≢true, not-true}
-use Rattle.apdu_core.specs.Apdu.{Apdu}
-use Rattle.policy_machine.specs.Admission.{Admitted, Of, channel_passed, class_passed, offer_passed, without_place}
-use Rattle.policy_machine.specs.Classes.{channel_of, class_of, is_protected, is_secure, protects}
-use Rattle.policy_machine.specs.Laws.{RefusalsDropOffers, is_later}
-use Rattle.policy_machine.specs.Step.{Outcome, keeps_load, refusal_leaves}
-use Rattle.policy_machine.specs.State.{Channel, Nothing, Offered, Secured, SecureChannel, Volatile, channel_at, offer_in, secure_channel_of, channel_with, with_offer_dropped, with_secure_channel, without_load, without_offer}
+use Rattle.policy_machine.specs.Prelude.{Admitted, Apdu, Channel, Nothing, Of, Outcome, RefusalsDropOffers, SecureChannel, Volatile, channel_at, channel_of, channel_passed, channel_with, class_of, class_passed, is_later, is_protected, is_secure, keeps_load, offer_in, offer_passed, protects, refusal_leaves, secure_channel_of, with_offer_dropped, with_secure_channel, without_load, without_offer, without_place}
 use Rattle.policy_machine.specs.declared.class.Class.{Class}
 use Rattle.policy_machine.specs.declared.instruction.TheConstants.{EXTERNAL_AUTHENTICATE}
 use Rattle.policy_machine.specs.declared.rule.Rule.{Rule}

@@ -2,24 +2,15 @@
 use Rattle.std.proofs.Common.{◌≡◌, ◌⊎◌, ℕ, List, [], ◌∷◌, false, Option, None, Some, refl, sym, ap, subst, ◌∙◌, inl, inr}
 use Rattle.std.specs.Prelude.{MatchOption}
 use Rattle.apdu_core.proofs.OneSpelling.{one_command}
-use Rattle.apdu_core.specs.Apdu.{Apdu, Short}
-use Rattle.policy_machine.specs.Admission.{Admits, Admitted, GeneralFails, IsTaken, GeneralRefusalLeaves, Of, SessionEnds, admitted_as, class_passed, general_rules, without_place, session_for}
-use Rattle.policy_machine.specs.Classes.{IsPlainManagement, channel_of}
-use Rattle.policy_machine.specs.Laws.{OneOutcome, OneRun}
-use Rattle.policy_machine.specs.State.{Effect, State, powered_on, Volatile, without_session}
-use Rattle.policy_machine.specs.Step.{IsAccepted, IsRejected, IsRefused, Outcome, accepted, refusal_leaves, refused}
+use Rattle.policy_machine.specs.Prelude.{Admits, Admitted, Apdu, DoesAs, Effect, FormFails, GeneralFails, GeneralRefusalLeaves, HasEffect, IsAccepted, IsPlainManagement, IsRefused, IsRejected, IsTaken, Judges, JudgesAs, Of, OneOf, OneOutcome, OneRun, Opens, Outcome, Run, Session, SessionEnds, Short, State, Volatile, accepted, accepting, admitted_as, channel_of, class_passed, form_rules, forms_of, general_rules, powered_on, refusal_leaves, refused, session_for, without_place, without_session}
 use Rattle.policy_machine.specs.declared.rule.Rule.{Rule}
 use Rattle.policy_machine.specs.declared.rule.Rule.TheVariants.{G}
 use Rattle.policy_machine.specs.declared.rule.RuleG.{RuleG}
 use Rattle.policy_machine.specs.declared.rule.RuleG.TheVariants.{G1, G2, G3, G4, G5, G6, G7, G8}
 use Rattle.policy_machine.proofs.FirstUnique.{one_first}
 use Rattle.scp03_card.proofs.GivesLemmas.{opens_one}
-use Rattle.scp03_card.specs.Opens.{Opens, accepting}
-use Rattle.scp03_card.specs.Session.{Session}
-use Rattle.policy_machine.specs.Commands.{HasEffect, DoesAs, FormFails, Judges, JudgesAs, OneOf, form_rules, forms_of}
 use Rattle.policy_machine.proofs.FormTaken.{by_form}
 use Rattle.policy_machine.proofs.Lawful.{some_same}
-use Rattle.policy_machine.specs.Run.{Run}
 use Rattle.policy_machine.specs.Run as run
 use Rattle.std.proofs.lemmas.Bool.{true≢false}
 

@@ -1,24 +1,13 @@
 -- What changes more than a sequence counter opens in a session.
 use Rattle.std.proofs.Common.{◌≡◌, ℕ, List, true, false, Option, None, Some, refl, sym, ap, subst, ◌∙◌, inl, inr, arith}
 use Rattle.std.specs.Prelude.{not, ◌==◌, Contains, MatchOption}
-use Rattle.apdu_core.specs.Apdu.{Apdu, Short}
-use Rattle.card_types.specs.Registry.{Registry}
-use Rattle.policy_machine.specs.Admission.{Admits, Admitted, GeneralFails, IsTaken, general_rules, session_for}
-use Rattle.policy_machine.specs.Changes.{Changes, OpensInSession, IsSameButCounters}
-use Rattle.policy_machine.specs.Classes.{class_of, instructions_of, is_protected, managing, protects}
-use Rattle.policy_machine.specs.Refusal.{IsFirst}
-use Rattle.policy_machine.specs.Laws.{ChangesAreOpened}
-use Rattle.policy_machine.specs.State.{Effect, State}
-use Rattle.policy_machine.specs.Step.{Outcome}
+use Rattle.policy_machine.specs.Prelude.{Admits, Admitted, Apdu, Changes, ChangesAreOpened, Effect, GeneralFails, HasEffect, IsFirst, IsSameButCounters, IsTaken, Opens, OpensInSession, Outcome, Registry, Session, Short, State, accepting, class_of, general_rules, instructions_of, is_protected, managing, protects, session_for}
 use Rattle.policy_machine.specs.declared.class.Class.{Class}
 use Rattle.policy_machine.specs.declared.class.Class.TheVariants.{Interindustry, Plain, Secure}
 use Rattle.policy_machine.specs.declared.rule.RuleG.TheVariants.{G4, G6}
 use Rattle.policy_machine.proofs.FirstUnique.{none_fails}
-use Rattle.scp03_card.specs.Opens.{Opens, accepting}
-use Rattle.scp03_card.specs.Session.{Session}
 use Rattle.std.proofs.lemmas.Bool.{cases_Bool, true≢false}
 use Rattle.std.specs.List.{list_any}
-use Rattle.policy_machine.specs.Commands.{HasEffect}
 use Rattle.policy_machine.proofs.Instructed.{each_byte, found_among}
 use Rattle.policy_machine.proofs.Lawful.{same_as}
 use Rattle.policy_machine.proofs.FormTaken.{done_by}

@@ -2,17 +2,8 @@
 use Rattle.std.proofs.Common.{◌≡◌, ◌≢◌, ℕ, List, true, false, Option, None, Some, refl, sym, ap, subst, ◌∙◌, inl, inr}
 use Rattle.std.specs.Prelude.{MatchOption}
 use Rattle.std.proofs.lemmas.Bool.{false≢true, true≢false}
-use Rattle.apdu_core.specs.Apdu.{Apdu, Short}
-use Rattle.card_types.specs.Registry.{Entry, entry_named, is_domain}
+use Rattle.policy_machine.specs.Prelude.{Admits, Admitted, Apdu, Channel, Entry, GeneralFails, Gives, InSession, IsAuthentic, IsFirst, IsKnown, IsPlainManagement, IsSound, IsTaken, IsToApplication, Judges, Of, OpenedAreJudged, Opens, Outcome, Session, Short, State, Step, accepting, admitted_as, channel_at, channel_of, class_of, entry_named, field_of, general_rules, is_domain, is_protected, protects, secure_channel_of, selected_on, session_for, session_in}
 use Rattle.card_types.specs.declared.card_life.CardLife.TheVariants.{Terminated}
-use Rattle.policy_machine.specs.Admission.{Admits, Admitted, GeneralFails, InSession, IsTaken, IsToApplication, Of, admitted_as, general_rules, session_for}
-use Rattle.policy_machine.specs.Classes.{IsKnown, IsPlainManagement, channel_of, class_of, is_protected, protects}
-use Rattle.policy_machine.specs.Commands.{Judges}
-use Rattle.policy_machine.specs.Refusal.{IsFirst}
-use Rattle.policy_machine.specs.OwnRules.{OpenedAreJudged}
-use Rattle.policy_machine.specs.Sound.{IsSound}
-use Rattle.policy_machine.specs.State.{State, Channel, channel_at, secure_channel_of, selected_on, session_in}
-use Rattle.policy_machine.specs.Step.{Outcome, Step}
 use Rattle.policy_machine.specs.declared.class.Class.{Class}
 use Rattle.policy_machine.specs.declared.class.Class.TheVariants.{Plain}
 use Rattle.policy_machine.specs.declared.rule.Rule.{Rule}
@@ -23,8 +14,6 @@ use Rattle.policy_machine.proofs.FirstUnique.{one_first}
 use Rattle.policy_machine.proofs.OneOutcome.{admits_one, of_one}
 use Rattle.policy_machine.proofs.Passing.{channel_is_low}
 use Rattle.policy_machine.proofs.SecureChannelSet.{session_stands}
-use Rattle.scp03_card.specs.Opens.{Gives, IsAuthentic, Opens, accepting, field_of}
-use Rattle.scp03_card.specs.Session.{Session}
 
 -- a security domain is no application
 apart : (found : Option Entry) → MatchOption found ⊥ (λ entry. is_domain entry ≡ true) → MatchOption found ⊥ (λ entry. is_domain entry ≡ false) → ⊥

@@ -2,18 +2,10 @@
 use Rattle.std.proofs.Common.{◌≡◌, ◌≢◌, ℕ, ◌<◌, List, Bool, true, false, Option, None, Some, refl, sym, ap, subst, ◌∙◌, inl, inr, length, arith}
 use Rattle.std.specs.Prelude.{IsSome, MatchOption, if◌then◌else◌, ◌==◌}
 use Rattle.std.proofs.lemmas.Bool.{cases_Bool, true≢false}
-use Rattle.apdu_core.specs.Apdu.{Apdu, Short}
-use Rattle.card_types.specs.Registry.{Entry, Registry, entry_named, is_domain}
-use Rattle.card_types.specs.Well.{IsDomainNamed}
-use Rattle.policy_machine.specs.Admission.{GeneralFails, IsTaken, admitted_as, channel_passed, class_passed, general_rules, message_joined, offer_passed, without_place, session_for}
-use Rattle.policy_machine.specs.Classes.{channel_of, is_protected}
-use Rattle.policy_machine.specs.Refusal.{IsFirst}
-use Rattle.policy_machine.specs.Sound.{Fits, IsSecured, IsWellChannel, FitsSecureChannel}
-use Rattle.policy_machine.specs.State.{State, Channel, LoadSession, Nothing, Offered, Secured, SecureChannel, Volatile, channel_at, load_without_channel, selected_of, selected_on, session_in, session_on, secure_channel_of, channel_with, with_channel, without_load}
+use Rattle.policy_machine.specs.Prelude.{Apdu, Channel, Entry, Fits, FitsSecureChannel, GeneralFails, IsDomainNamed, IsFirst, IsSecured, IsTaken, IsWellChannel, LoadSession, Nothing, Opens, Registry, SecureChannel, Secured, Session, Short, State, Volatile, accepting, admitted_as, channel_at, channel_of, channel_passed, channel_with, class_passed, entry_named, general_rules, is_domain, is_protected, load_without_channel, message_joined, offer_passed, secure_channel_of, selected_of, selected_on, session_for, session_in, session_on, with_channel, without_load, without_place}
+use Rattle.policy_machine.specs.State.{Offered}
 use Rattle.policy_machine.specs.declared.instruction.TheConstants.{SELECT, MANAGE_CHANNEL, EXTERNAL_AUTHENTICATE, LOAD}
 use Rattle.policy_machine.specs.declared.rule.RuleG.TheVariants.{G3, G4}
-use Rattle.scp03_card.specs.Opens.{Opens, accepting}
-use Rattle.scp03_card.specs.Session.{Session}
 use Rattle.policy_machine.proofs.FirstUnique.{none_fails}
 use Rattle.policy_machine.proofs.SetChannel.{HasSession, IsInSession, becomes_fits, set_same, without_load_fits}
 use Rattle.policy_machine.proofs.SecureChannelSet.{secured_dropped, secured_fits, session_stands, well_dropped, within}

@@ -1,17 +1,10 @@
 -- A command after the checks of class, channel and instruction leaves no place in a listing, unless it is GET STATUS.
 use Rattle.std.proofs.Common.{◌≡◌, ◌≢◌, ℕ, List, Bool, false, true, Option, None, Some, refl, sym, ap, subst, ◌∙◌, inl, inr}
 use Rattle.std.specs.Prelude.{MatchOption, ◌==◌}
-use Rattle.apdu_core.specs.Apdu.{Apdu}
-use Rattle.policy_machine.specs.Admission.{Admits, Admitted, Of, admitted_as, channel_passed, class_passed, message_joined, without_place}
-use Rattle.policy_machine.specs.Classes.{channel_of}
-use Rattle.policy_machine.specs.Commands.{HasEffect}
-use Rattle.policy_machine.specs.Laws.{PlacesAreForgotten, is_later}
-use Rattle.policy_machine.specs.State.{Effect, State, Channel, Nothing, Secured, Volatile, channel_at, place_in, secure_channel_of, with_offer_dropped, with_secure_channel, without_load, without_offer, without_session}
-use Rattle.policy_machine.specs.Step.{Outcome, keeps_load, refusal_leaves}
+use Rattle.policy_machine.specs.Prelude.{Admits, Admitted, Apdu, Channel, Effect, HasEffect, Nothing, Of, Outcome, PlacesAreForgotten, Secured, Session, State, Volatile, admitted_as, channel_at, channel_of, channel_passed, class_passed, is_later, keeps_load, message_joined, place_in, refusal_leaves, secure_channel_of, with_offer_dropped, with_secure_channel, without_load, without_offer, without_place, without_session}
 use Rattle.policy_machine.specs.declared.instruction.TheConstants.{EXTERNAL_AUTHENTICATE, GET_STATUS, LOAD}
 use Rattle.policy_machine.specs.declared.rule.Rule.{Rule}
 use Rattle.policy_machine.specs.declared.rule.Rule.TheVariants.{G}
-use Rattle.scp03_card.specs.Session.{Session}
 use Rattle.policy_machine.proofs.FormTaken.{done_by}
 use Rattle.policy_machine.proofs.Lawful.{HasNoPlaceOn, placeless_same, place_leaves_secure_channel}
 use Rattle.policy_machine.proofs.Passing.{either}

@@ -6,21 +6,11 @@ use Rattle.std.proofs.lemmas.List.Elements.{All-head, All-nil, All-cons, All-tai
 use Rattle.card_types.proofs.Members.{contains_cases, contains_first, contains_later}
 use Rattle.card_types.proofs.SameAid.{same_aid_decides}
 use Rattle.card_types.proofs.SetMembers.{HasKeyNamed, whole_of}
-use Rattle.card_types.specs.Aid.{same_aid}
-use Rattle.card_types.specs.Registry.{IsAscending, counter_order, key_order, Counter, Key, Registry}
-use Rattle.card_types.specs.Well.{IsDomainNamed, IsKeyLength, IsKeyName, IsWellCounter, IsWellKey, IsWholeSet, Well}
+use Rattle.policy_machine.specs.Prelude.{Admitted, AreKeysPut, AreKeysSent, AreOfOneLength, AsksToPut, Counter, HasFieldLengths, IsArranged, IsAscending, IsDomainNamed, IsKeyLength, IsKeyName, IsNewVersion, IsOfCard, IsWellCounter, IsWellKey, IsWholeSet, Key, KeysAsked, PuttingKeyFails, Registry, SentKey, Session, Well, acting, counter_order, counters_but, counters_from, has_key_version, is_key_numbered, key_count, key_order, keys_but, keys_from, keys_left, own_keys_left, same_aid, session_on, with_keys}
 use Rattle.card_types.specs.declared.limits.TheConstants.{DOMAIN_KEYS, KEYS}
-use Rattle.policy_machine.specs.Admission.{Admitted}
-use Rattle.policy_machine.specs.Arranged.{IsArranged}
-use Rattle.policy_machine.specs.KeySets.{counters_but, has_key_version, is_key_numbered, keys_but, with_keys}
-use Rattle.policy_machine.specs.Management.{acting}
-use Rattle.policy_machine.specs.PutKey.{AreKeysSent, AreOfOneLength, HasFieldLengths, IsNewVersion, SentKey, counters_from, key_count, keys_from, keys_left, own_keys_left, AreKeysPut, AsksToPut, KeysAsked, PuttingKeyFails}
-use Rattle.policy_machine.specs.State.{session_on}
 use Rattle.policy_machine.specs.declared.put_key.RulePK.TheVariants.{PK2, PK4}
-use Rattle.scp03_card.specs.Session.{Session}
 use Rattle.policy_machine.proofs.Filtered.{any_there}
 use Rattle.policy_machine.proofs.PutKeyKeys.{AreApart, counter_begun, key_added, length_of_added, put_well}
-use Rattle.card_types.specs.ChangeLaws.{IsOfCard}
 
 -- what is so of a key that is put
 pub record IsNewKey (owner : List ℕ) (version identifier size : ℕ) (keys : List (List ℕ)) (key : Key) : Type 0 where
@@ -190,13 +180,8 @@ module _ (registry : Registry) (well : Well registry) (owner : List ℕ) (domain
       (omega (arith, length_keys_from owner version 1 new)) (omega (arith, length_keys_from owner version 1 new))
 
   pub new_keys_ascending : IsAscending registry → IsAscending after
-  new_keys_ascending ascending = record {
-    entries = ascending.entries;
-    files = ascending.files;
-    keys = keys_put.ascending;
-    counters = counters_put.ascending;
-    objects = ascending.objects;
-  }
+  new_keys_ascending ascending =
+      record { entries = ascending.entries; files = ascending.files; keys = keys_put.ascending; counters = counters_put.ascending; objects = ascending.objects }
 
 -- the keys that are sent have the length that is said, and are as many
 sizes_sent : (dek : List ℕ) (size : ℕ) (sent : List SentKey) (keys : List (List ℕ)) → AreKeysSent dek sent keys → All (λ one. one.size ≡ size) sent

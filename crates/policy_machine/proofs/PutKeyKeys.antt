@@ -8,11 +8,8 @@ use Rattle.std.proofs.lemmas.List.Sorted.{Contains-permutation, IsPermutation-sy
 use Rattle.card_types.proofs.Members.{contains_filter, filtered}
 use Rattle.card_types.proofs.SameAid.{same_aid_decides}
 use Rattle.card_types.proofs.SetMembers.{HasCounterOf, HasKeyNamed, whole_still}
-use Rattle.card_types.specs.Aid.{same_aid}
-use Rattle.card_types.specs.Registry.{Counter, Entry, Key, LoadFile, Object, Registry, keys_of}
-use Rattle.card_types.specs.Well.{HasLengthOfSet, IsWellCounter, IsWellEntry, IsWellFile, IsWellKey, IsWellObject, IsWholeSet, Well}
+use Rattle.policy_machine.specs.Prelude.{Counter, Entry, HasLengthOfSet, IsWellCounter, IsWellEntry, IsWellFile, IsWellKey, IsWellObject, IsWholeSet, Key, LoadFile, Object, Registry, Well, counters_but, is_counter_numbered, is_key_numbered, keys_but, keys_of, same_aid, with_keys}
 use Rattle.card_types.specs.declared.limits.TheConstants.{DOMAIN_KEYS, KEYS}
-use Rattle.policy_machine.specs.KeySets.{counters_but, is_counter_numbered, is_key_numbered, keys_but, with_keys}
 use Rattle.policy_machine.proofs.Filtered.{as_many_pass, fewer_pass, most_pass, none_pass}
 
 -- things that are put in the place of those that go
@@ -64,26 +61,21 @@ module _ (registry : Registry) (owner : List ℕ) (replaced : ℕ) (added : List
 
   -- a key set that is not the replaced one stays whole
   module _ (domain : List ℕ) (version : ℕ) (other : (same_aid domain owner && version == replaced) ≡ false) where
+    stays : (holder : List ℕ) (numbered : ℕ) → holder ≡ domain → numbered ≡ version → (same_aid holder owner && numbered == replaced) ≡ false
+    stays holder numbered owned versioned =
+        ap (λ (o : List ℕ). same_aid o owner && numbered == replaced) owned ∙ ap (λ (v : ℕ). same_aid domain owner && v == replaced) versioned ∙ other
+
     has_key_still : (identifier : ℕ) → HasKeyNamed registry domain version identifier → HasKeyNamed after domain version identifier
-    has_key_still identifier has = record {
-      key = has.key;
-      is_there = still_there (is_key_numbered owner replaced) registry.keys added keys keys_put has.key has.is_there
-          (ap (λ (o : List ℕ). same_aid o owner && has.key.version == replaced) has.owner_is
-          ∙ ap (λ (v : ℕ). same_aid domain owner && v == replaced) has.version_is ∙ other);
-      owner_is = has.owner_is;
-      version_is = has.version_is;
-      identifier_is = has.identifier_is;
-    }
+    has_key_still identifier has =
+        let there = still_there (is_key_numbered owner replaced) registry.keys added keys keys_put has.key has.is_there
+        (stays has.key.owner has.key.version has.owner_is has.version_is) in
+        record { key = has.key; is_there = there; owner_is = has.owner_is; version_is = has.version_is; identifier_is = has.identifier_is }
 
     has_counter_still : HasCounterOf registry domain version → HasCounterOf after domain version
-    has_counter_still has = record {
-      counter = has.counter;
-      is_there = still_there (is_counter_numbered owner replaced) registry.counters new_counters counters counters_put has.counter has.is_there
-          (ap (λ (o : List ℕ). same_aid o owner && has.counter.version == replaced) has.owner_is
-          ∙ ap (λ (v : ℕ). same_aid domain owner && v == replaced) has.version_is ∙ other);
-      owner_is = has.owner_is;
-      version_is = has.version_is;
-    }
+    has_counter_still has =
+        let there = still_there (is_counter_numbered owner replaced) registry.counters new_counters counters counters_put has.counter has.is_there
+        (stays has.counter.owner has.counter.version has.owner_is has.version_is) in
+        record { counter = has.counter; is_there = there; owner_is = has.owner_is; version_is = has.version_is }
 
     set_still : IsWholeSet registry domain version → IsWholeSet after domain version
     set_still set = whole_still registry after domain version has_key_still has_counter_still set

@@ -1,19 +1,14 @@
 -- The laws of PUT KEY.
 use Rattle.std.proofs.Common.{refl, arith, inl}
-use Rattle.policy_machine.specs.Admission.{Admitted}
-use Rattle.policy_machine.specs.PutKey.{managed_put_key}
+use Rattle.policy_machine.specs.Prelude.{Admitted, IsFirst, IsJudgeable, Judges, TakesCommand, command_form, managed_put_key, with_keys}
 use Rattle.policy_machine.specs.declared.put_key.RulePK.TheVariants.{PK2, PK4}
 use Rattle.policy_machine.proofs.PutKeyKeeps.{put_keeps}
 use Rattle.policy_machine.proofs.SameThings.{same_fits}
 use Rattle.policy_machine.proofs.Judging.{judged}
-use Rattle.policy_machine.specs.Commands.{TakesCommand, Judges}
-use Rattle.policy_machine.specs.Refusal.{IsFirst}
 use Rattle.policy_machine.specs.declared.rule.Rule.{Rule}
 use Rattle.std.proofs.Common.{Option}
-use Rattle.policy_machine.specs.ManagedForm.{IsJudgeable, command_form}
 use Rattle.policy_machine.proofs.ManagedLawful.{IsManagedLawful, KeepsCard, may_follow, undelegated}
 use Rattle.policy_machine.proofs.PutKeyOnce.{one_put, keys_put_once}
-use Rattle.policy_machine.specs.KeySets.{with_keys}
 use Rattle.policy_machine.proofs.Lawful.{sound_of_card}
 
 pub put_key_judgeable : IsJudgeable managed_put_key.judged

@@ -8,23 +8,13 @@ use Rattle.std.specs.declared.cmp.Ordering.{Ordering}
 use Rattle.std.proofs.lemmas.Bool.{cases_lt}
 use Rattle.std.proofs.lemmas.List.{get_or-replicate, get_or_past, take_at}
 use Rattle.std.proofs.lemmas.List.Sorted.{IsPermutation-sym, IsPermutation-trans}
-use Rattle.aes_block.specs.Cipher.{IsBlock}
+use Rattle.policy_machine.specs.Prelude.{Admitted, AreKeysPut, AreKeysSent, AsksToPut, HasKeyFields, IsArranged, IsBlock, IsKeySent, KeysAsked, PuttingKeyFails, Registry, SentKey, Session, acting, command_form, counter_order, key_count, key_field, key_order, keys_from, keys_left, managed_put_key, session_on, with_keys, zero_block}
 use Rattle.cmac_kdf.proofs.CbcLemmas.{same_plain}
-use Rattle.cmac_kdf.specs.Blocks.{zero_block}
 use Rattle.card_types.proofs.ChangeExists.{one_order}
 use Rattle.card_types.proofs.KeyNames.{counter_order_total, key_order_total}
-use Rattle.card_types.specs.Registry.{counter_order, key_order, Registry}
-use Rattle.policy_machine.specs.Admission.{Admitted}
-use Rattle.policy_machine.specs.Arranged.{IsArranged}
-use Rattle.policy_machine.specs.KeySets.{with_keys}
-use Rattle.policy_machine.specs.Management.{acting}
-use Rattle.policy_machine.specs.PutKey.{AreKeysSent, HasKeyFields, IsKeySent, SentKey, key_count, key_field, keys_from, keys_left, AreKeysPut, AsksToPut, KeysAsked, PuttingKeyFails, managed_put_key}
-use Rattle.policy_machine.specs.State.{session_on}
-use Rattle.scp03_card.specs.Session.{Session}
 use Rattle.policy_machine.proofs.KeyFields.{one_fields}
 use Rattle.policy_machine.specs.declared.rule.Rule.TheVariants.{PK}
 use Rattle.policy_machine.specs.declared.put_key.RulePK.{RulePK}
-use Rattle.policy_machine.specs.ManagedForm.{command_form}
 
 pub zeros : IsBlock zero_block
 zeros = record {

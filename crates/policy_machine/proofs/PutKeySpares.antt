@@ -2,10 +2,7 @@
 use Rattle.std.proofs.Common.{◌≡◌, inl, inr, ℕ, ◌+◌, List, [], ◌∷◌, ◌++◌, refl, ap, sym, subst, arith}
 use Rattle.std.specs.Prelude.{Contains}
 use Rattle.card_types.proofs.Members.{contains_cases}
-use Rattle.card_types.specs.Registry.{Key, Object, Registry}
-use Rattle.policy_machine.specs.KeySets.{is_key_numbered, with_keys}
-use Rattle.policy_machine.specs.Management.{acting}
-use Rattle.policy_machine.specs.PutKey.{keys_from, keys_left, managed_put_key}
+use Rattle.policy_machine.specs.Prelude.{Key, Object, Registry, acting, is_key_numbered, keys_from, keys_left, managed_put_key, with_keys}
 use Rattle.policy_machine.proofs.DeleteKeySpares.{not_numbered}
 use Rattle.policy_machine.proofs.SparingForms.{IsManagedSparing}
 use Rattle.policy_machine.proofs.TreeKept.{SparesTree}

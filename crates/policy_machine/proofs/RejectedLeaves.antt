@@ -1,15 +1,10 @@
 -- What is so of the channel of a command that the checks of class, channel and instruction let pass, and a general rule after them rejects.
 use Rattle.std.proofs.Common.{◌≡◌, ℕ, List, false, true, inl, inr, sym, subst}
 use Rattle.std.proofs.lemmas.Bool.{false≢true}
-use Rattle.apdu_core.specs.Apdu.{Apdu, Short}
-use Rattle.policy_machine.specs.Admission.{GeneralFails, GeneralRefusalLeaves, Of, class_passed, general_rules, without_place}
-use Rattle.policy_machine.specs.Classes.{IsPlainManagement, channel_of}
-use Rattle.policy_machine.specs.Laws.{is_later}
-use Rattle.policy_machine.specs.State.{State, Volatile, without_session}
-use Rattle.policy_machine.specs.Step.{IsRejected, Outcome}
+use Rattle.policy_machine.specs.Prelude.{Apdu, GeneralFails, GeneralRefusalLeaves, IsPlainManagement, IsRejected, Of, Outcome, Short, State, Volatile, channel_of, class_passed, general_rules, is_later, without_place, without_session}
 use Rattle.policy_machine.specs.declared.rule.Rule.TheVariants.{G}
 use Rattle.policy_machine.specs.declared.rule.RuleG.{RuleG}
-use Rattle.policy_machine.specs.declared.rule.RuleG.TheVariants.{G1, G2, G3, G4, G5, G6, G7, G8}
+use Rattle.policy_machine.specs.declared.rule.RuleG.TheVariants.{G5, G6, G7, G8}
 use Rattle.policy_machine.proofs.FirstUnique.{first_fails}
 
 -- where it is so of the channel once its offer is dropped, once its session has ended, and where there is none to end

@@ -1,14 +1,7 @@
 -- What is asked of the form of a command, by which receipt numbers rise as they should.
 use Rattle.std.proofs.Common.{◌≡◌, ℕ, List, None, refl, ◌∙◌, ap}
 use Rattle.std.specs.Prelude.{Contains}
-use Rattle.card_types.specs.Registry.{Registry}
-use Rattle.policy_machine.specs.Admission.{Admitted}
-use Rattle.policy_machine.specs.Changes.{IsSameButCounters}
-use Rattle.policy_machine.specs.Classes.{managing}
-use Rattle.policy_machine.specs.CommandForm.{CommandForm}
-use Rattle.policy_machine.specs.Commands.{JudgesAs}
-use Rattle.policy_machine.specs.ManagedForm.{ManagedForm, command_form}
-use Rattle.policy_machine.specs.State.{Effect}
+use Rattle.policy_machine.specs.Prelude.{Admitted, CommandForm, Effect, IsSameButCounters, JudgesAs, ManagedForm, Registry, command_form, managing}
 use Rattle.policy_machine.proofs.AnsweredRises.{AllRise, answered_rises, none_rises}
 use Rattle.policy_machine.proofs.Lawful.{IsReady}
 use Rattle.policy_machine.proofs.ManagedLawful.{IsManagedLawful, IsPassedFor, passed_for}

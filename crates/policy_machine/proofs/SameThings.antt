@@ -1,9 +1,7 @@
 -- What a card holds while it has power goes with a registry of the same entries and Executable Load Files.
 use Rattle.std.proofs.Common.{List, refl}
-use Rattle.card_types.specs.Registry.{Counter, Key, Object, Registry}
+use Rattle.policy_machine.specs.Prelude.{Counter, Fits, Key, Object, Registry, Volatile}
 use Rattle.card_types.specs.declared.card_life.CardLife.{CardLife}
-use Rattle.policy_machine.specs.Sound.{Fits}
-use Rattle.policy_machine.specs.State.{Volatile}
 use Rattle.policy_machine.proofs.FitsKept.{fits_kept, same_files}
 
 module _ (registry : Registry) (life : CardLife) (keys : List Key) (counters : List Counter) (objects : List Object) where

@@ -2,11 +2,8 @@
 use Rattle.std.proofs.Common.{◌≡◌, ℕ, ◌<◌, List, Option, None, Some, refl, sym, ap, subst, ◌∙◌, inl, inr, length}
 use Rattle.std.specs.Prelude.{IsSome, MatchOption}
 use Rattle.std.proofs.lemmas.Bool.Decides.{eqb_tells}
-use Rattle.card_types.specs.Registry.{Registry}
-use Rattle.policy_machine.specs.Sound.{Fits, IsSecured, IsWellChannel, IsWellLoad, FitsSecureChannel}
-use Rattle.policy_machine.specs.State.{Channel, LoadSession, Nothing, Offered, Secured, SecureChannel, Volatile, channel_at, load_without_channel, offer_in, offer_on, selected_of, selected_on, session_in, session_on, secure_channel_of, channel_with, with_offer_dropped, with_secure_channel, without_load, without_offer}
-use Rattle.scp03_card.specs.Offer.{Offer}
-use Rattle.scp03_card.specs.Session.{Session}
+use Rattle.policy_machine.specs.Prelude.{Channel, Fits, FitsSecureChannel, IsSecured, IsWellChannel, IsWellLoad, LoadSession, Nothing, Offer, Registry, SecureChannel, Secured, Session, Volatile, channel_at, channel_with, load_without_channel, offer_in, offer_on, secure_channel_of, selected_of, selected_on, session_in, session_on, with_offer_dropped, with_secure_channel, without_load, without_offer}
+use Rattle.policy_machine.specs.State.{Offered}
 use Rattle.policy_machine.proofs.SetChannel.{IsInSession, becomes_fits, ended_fits, set_fits}
 
 pub within : (registry : Registry) (volatile : Volatile) (number : ℕ) → Fits registry volatile → number < 4 → number < length volatile.channels

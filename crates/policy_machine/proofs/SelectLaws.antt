@@ -2,22 +2,15 @@
 use Rattle.std.proofs.Common.{◌≡◌, ℕ, List, [], ◌∷◌, Bool, true, false, Option, None, Some, refl, sym, ap, subst, ◌∙◌}
 use Rattle.std.specs.Prelude.{IsSome, MatchOption, find, cond}
 use Rattle.card_types.proofs.SameAid.{aid_same_itself}
-use Rattle.card_types.specs.Aid.{same_aid}
-use Rattle.card_types.specs.Registry.{Entry, Registry, entry_named}
-use Rattle.policy_machine.specs.Admission.{Admitted}
-use Rattle.policy_machine.specs.Select.{SelectsEntry, SelectEffect, fits_select, least_fitting, IsControlInformation, control_parts, select}
-use Rattle.policy_machine.specs.Sound.{Fits, IsSound}
-use Rattle.policy_machine.specs.State.{Effect, Volatile, fresh, with_selected}
+use Rattle.policy_machine.specs.Prelude.{Admitted, AreElements, Effect, Entry, Fits, IsControlInformation, IsSound, Judges, Registry, SelectEffect, SelectsEntry, Spelling, TakesCommand, Volatile, control_parts, entry_named, fits_select, fresh, least_fitting, same_aid, select, with_selected}
 use Rattle.policy_machine.proofs.SetChannel.{ended_fits}
 use Rattle.policy_machine.proofs.SecureChannelSet.{within}
 use Rattle.bertlv.proofs.SpellingLemmas.{one_spelling, one_spelling_each}
-use Rattle.bertlv.specs.Spelling.{AreElements, Spelling}
 use Rattle.policy_machine.proofs.SameEffect.{effect_same, state_same}
 use Rattle.policy_machine.proofs.Lawful.{HasNoPlaceOn, IsLawful, IsReady, found_so, load_ended, placeless_same, placeless_set, same_as, sound_with}
 use Rattle.policy_machine.proofs.FreshChannel.{fresh_is_well}
 use Rattle.card_types.specs.Registry as registry
 use Rattle.policy_machine.proofs.Judging.{judged}
-use Rattle.policy_machine.specs.Commands.{TakesCommand, Judges}
 use Rattle.policy_machine.specs.declared.rule.Rule.TheVariants.{SE}
 use Rattle.policy_machine.specs.declared.select.RuleSE.{RuleSE}
 use Rattle.policy_machine.specs.declared.select.RuleSE.TheVariants.{SE1}

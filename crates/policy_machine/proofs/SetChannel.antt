@@ -4,10 +4,7 @@ use Rattle.std.specs.Prelude.{IsSome, MatchOption, slice_index_or, slice_set, co
 use Rattle.std.specs.List.{position_or_len}
 use Rattle.std.proofs.lemmas.Bool.Decides.{eqb_tells}
 use Rattle.std.proofs.lemmas.List.{length-set, get_or-set_same, get_or-set_other}
-use Rattle.card_types.specs.Registry.{Registry}
-use Rattle.policy_machine.specs.ManageChannel.{is_closed, lowest_closed}
-use Rattle.policy_machine.specs.Sound.{Fits, IsSecured, IsWellChannel, IsWellLoad}
-use Rattle.policy_machine.specs.State.{Channel, LoadSession, Volatile, channel_at, load_without_channel, with_channel, without_load}
+use Rattle.policy_machine.specs.Prelude.{Channel, Fits, IsSecured, IsWellChannel, IsWellLoad, LoadSession, Registry, Volatile, channel_at, is_closed, load_without_channel, lowest_closed, with_channel, without_load}
 use Rattle.policy_machine.proofs.FitsKept.{load_goes_on, same_files}
 
 -- a session is opened on the channel

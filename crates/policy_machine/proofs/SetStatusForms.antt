@@ -1,9 +1,7 @@
 -- The forms of SET STATUS: P1 tells which one takes a command.
 use Rattle.std.proofs.Common.{◌≡◌, ◌⊎◌, ℕ, [], ◌∷◌, inl, inr, arith}
-use Rattle.policy_machine.specs.CardStatus.{managed_card_status}
-use Rattle.policy_machine.specs.EntryStatus.{managed_entry_status}
+use Rattle.policy_machine.specs.Prelude.{command_form, managed_card_status, managed_entry_status}
 use Rattle.policy_machine.proofs.InstallForms.{AreApart}
-use Rattle.policy_machine.specs.ManagedForm.{command_form}
 
 not_card : (p1 : ℕ) → p1 ≡ 0x80 → (p1 ≡ 0x40) ⊎ (p1 ≡ 0x60) → ⊥
 not_card p1 is (inl one) = omega arith

@@ -1,17 +1,7 @@
 -- What is asked of the form of a command, by which it spares the trees of other domains.
 use Rattle.std.proofs.Common.{inl, ℕ, List, None}
 use Rattle.std.specs.Prelude.{Contains}
-use Rattle.card_types.specs.Registry.{Registry}
-use Rattle.card_types.specs.Well.{IsDomainNamed}
-use Rattle.policy_machine.specs.Admission.{Admitted}
-use Rattle.policy_machine.specs.Changes.{IsSameButCounters}
-use Rattle.policy_machine.specs.Classes.{changing}
-use Rattle.policy_machine.specs.CommandForm.{CommandForm}
-use Rattle.policy_machine.specs.Commands.{JudgesAs}
-use Rattle.policy_machine.specs.Isolation.{HasPowerOver}
-use Rattle.policy_machine.specs.ManagedForm.{ManagedForm, command_form}
-use Rattle.policy_machine.specs.Management.{acting}
-use Rattle.policy_machine.specs.State.{Effect}
+use Rattle.policy_machine.specs.Prelude.{Admitted, CommandForm, Effect, HasPowerOver, IsDomainNamed, IsSameButCounters, JudgesAs, ManagedForm, Registry, acting, changing, command_form}
 use Rattle.policy_machine.proofs.AnsweredSpares.{answered_spares}
 use Rattle.policy_machine.proofs.Lawful.{IsReady, sound_of_card}
 use Rattle.policy_machine.proofs.ManagedLawful.{IsManagedLawful, IsPassedFor, passed_for}

@@ -2,12 +2,8 @@
 use Rattle.std.proofs.Common.{◌≡◌, ℕ, ◌<◌, List, [], ◌∷◌, ◌++◌, length, refl, ap, sym, subst, ◌∙◌, arith, length-append}
 use Rattle.std.specs.Prelude.{All}
 use Rattle.std.proofs.lemmas.List.Elements.{All-cons, All-head, All-tail}
-use Rattle.bertlv.specs.Spelling.{AreElements, BeginsWith, Element, Spelling}
-use Rattle.bertlv.specs.Tag.{TagBytes}
+use Rattle.policy_machine.specs.Prelude.{AreElements, AreObjects, BeginsWith, Element, IsObject, Spelling, StoreDataField, TagBytes}
 use Rattle.bertlv.proofs.SpellingLemmas.{spelling_front}
-use Rattle.card_types.specs.Well.{IsObject}
-use Rattle.policy_machine.specs.DataObjects.{AreObjects}
-use Rattle.policy_machine.specs.StoreData.{StoreDataField}
 
 some_field : (tag : ℕ) (field : List ℕ) → TagBytes tag field → 0 < length field
 some_field tag [] is = absurd is

@@ -3,21 +3,14 @@ use Rattle.std.proofs.Common.{ℕ, ◌≤◌, List, [], ◌∷◌, length, sym, 
 use Rattle.std.specs.Prelude.{All, filter, not}
 use Rattle.std.proofs.lemmas.List.Elements.{All-cons, All-filter, All-head, All-tail}
 use Rattle.std.proofs.lemmas.List.Sorted.{All-permutation, length_permutation, IsPermutation-sym, IsPermutation-trans}
-use Rattle.bertlv.specs.Spelling.{Element}
-use Rattle.card_types.specs.Registry.{IsAscending, object_order, Object, Registry}
-use Rattle.card_types.specs.Well.{IsDomainNamed, IsObject, IsWellObject, Well}
+use Rattle.policy_machine.specs.Prelude.{Element, IsArranged, IsAscending, IsDomainNamed, IsJudgeable, IsObject, IsWellObject, Object, Registry, Well, acting, is_object_of, managed_store_data, object_order, objects_stored, with_data, with_object, with_objects}
 use Rattle.card_types.specs.declared.limits.TheConstants.{OBJECTS}
-use Rattle.policy_machine.specs.Arranged.{IsArranged}
-use Rattle.policy_machine.specs.Management.{acting}
-use Rattle.policy_machine.specs.DataObjects.{is_object_of, with_data, with_object, with_objects}
-use Rattle.policy_machine.specs.StoreData.{objects_stored, managed_store_data}
 use Rattle.policy_machine.specs.declared.store_data.RuleSD.TheVariants.{SD1}
 use Rattle.card_types.proofs.ChangeExists.{one_order}
 use Rattle.card_types.proofs.ObjectNames.{object_order_total}
 use Rattle.policy_machine.proofs.StoreDataElements.{one_list}
 use Rattle.policy_machine.proofs.SameThings.{same_fits}
 use Rattle.policy_machine.proofs.DataWell.{data_well}
-use Rattle.policy_machine.specs.ManagedForm.{IsJudgeable}
 use Rattle.policy_machine.proofs.ManagedLawful.{IsManagedLawful, KeepsCard, LeavesOne, may_follow, undelegated}
 
 module _ (registry : Registry) (owner : List ℕ) (domain : IsDomainNamed registry owner) where
@@ -46,21 +39,11 @@ module _ (registry : Registry) (owner : List ℕ) (domain : IsDomainNamed regist
 
 pub data_ascending : (registry : Registry) (things objects : List Object) → IsAscending registry → IsArranged object_order things objects
     → IsAscending (with_data registry objects)
-data_ascending registry things objects ascending arranged = record {
-  entries = ascending.entries;
-  files = ascending.files;
-  keys = ascending.keys;
-  counters = ascending.counters;
-  objects = arranged.ascending;
-}
+data_ascending registry things objects ascending arranged =
+    record { entries = ascending.entries; files = ascending.files; keys = ascending.keys; counters = ascending.counters; objects = arranged.ascending }
 
 pub store_judgeable : IsJudgeable managed_store_data.judged
-store_judgeable = record {
-  one_asked = λ p1 p2 body a b one other. one_list a b body one.spelled other.spelled;
-  own = λ rule. tt;
-  one_rule = λ a b same. cc;
-  approving = tt;
-}
+store_judgeable = record { one_asked = λ p1 p2 body a b one other. one_list a b body one.spelled other.spelled; own = λ rule. tt; one_rule = λ a b same. cc; approving = tt }
 
 -- it changes data objects alone
 storing_keeps : KeepsCard managed_store_data

@@ -1,13 +1,9 @@
 -- STORE DATA spares the trees in which the acting domain is not.
 use Rattle.std.proofs.Common.{◌≡◌, arith, inl, inr, ℕ, List, [], ◌∷◌, refl, ap, sym, subst}
 use Rattle.std.specs.Prelude.{Contains, ◌&&◌, ◌==◌}
-use Rattle.bertlv.specs.Spelling.{Element}
+use Rattle.policy_machine.specs.Prelude.{Element, Key, Object, Registry, acting, is_object_of, managed_store_data, objects_stored, with_data, with_object, with_objects}
 use Rattle.card_types.proofs.Members.{contains_cases}
 use Rattle.card_types.proofs.NamedThings.{aid_differs}
-use Rattle.card_types.specs.Registry.{Key, Object, Registry}
-use Rattle.policy_machine.specs.DataObjects.{is_object_of, with_data, with_object, with_objects}
-use Rattle.policy_machine.specs.Management.{acting}
-use Rattle.policy_machine.specs.StoreData.{managed_store_data, objects_stored}
 use Rattle.policy_machine.proofs.SparingForms.{IsManagedSparing}
 use Rattle.policy_machine.proofs.TreeKept.{SparesTree}
 use Rattle.policy_machine.proofs.TreesOwned.{SameOfOthers, owned_spared, same_arranged, same_list, same_replaced, same_then}

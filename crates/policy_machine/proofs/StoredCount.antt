@@ -5,13 +5,10 @@ use Rattle.std.specs.List.{cons_option, list_any}
 use Rattle.std.proofs.lemmas.Bool.{cases_eq, eq-eqb, ne_eqb, not_from_false, false_from_ne_true}
 use Rattle.std.proofs.lemmas.List.Sorted.{length_permutation, list_any-IsPermutation}
 use Rattle.std.proofs.lemmas.Map.Views.{any-filter_same}
-use Rattle.bertlv.specs.Spelling.{Element}
-use Rattle.card_types.specs.Registry.{object_order}
+use Rattle.policy_machine.specs.Prelude.{Element, IsArranged, is_object_of, new_tags, object_order, with_object, with_objects}
 use Rattle.card_types.specs.Registry as registry
 use Rattle.policy_machine.proofs.NewTags.{count_if, first_new, with_tag}
 use Rattle.policy_machine.proofs.ObjectStored.{is_of_from, is_of_parts, none_any, object_from, one_stored, some_any}
-use Rattle.policy_machine.specs.Arranged.{IsArranged}
-use Rattle.policy_machine.specs.DataObjects.{new_tags, is_object_of, with_object, with_objects}
 
 module _ (owner : List ℕ) where
   -- with one more object its tag is there

@@ -2,15 +2,9 @@
 use Rattle.std.proofs.Common.{◌≡◌, ◌≢◌, inl, inr, ℕ, true, List, [], ◌∷◌, Option, None, Some, sym, subst, ◌∙◌}
 use Rattle.std.specs.Prelude.{MatchOption}
 use Rattle.std.specs.Option.{option_map}
-use Rattle.card_types.specs.ChangeLaws.{IsOfCard}
-use Rattle.card_types.specs.Hierarchy.{IsPath}
-use Rattle.card_types.specs.Registry.{Entry, Registry, domain_of, entry_named, is_domain}
-use Rattle.card_types.specs.Well.{IsDomainNamed}
+use Rattle.policy_machine.specs.Prelude.{Entry, HasPowerOver, IsAboveIn, IsAtOrAbove, IsDomainNamed, IsOfCard, IsPath, Registry, domain_of, entry_named, is_domain}
 use Rattle.domain_tree.proofs.AboveChanges.{step_to_domain}
 use Rattle.domain_tree.proofs.Compared.{above_compared, above_further}
-use Rattle.domain_tree.specs.Above.{IsAboveIn}
-use Rattle.policy_machine.specs.Charge.{IsAtOrAbove}
-use Rattle.policy_machine.specs.Isolation.{HasPowerOver}
 
 module _ (registry : Registry) where
   -- a domain that is named has a domain, and so has whatever something is above

@@ -1,17 +1,8 @@
 -- The tree of a domain, where the command of another domain changes what is below that domain alone.
 use Rattle.std.proofs.Common.{◌≡◌, ◌≢◌, ◌⊎◌, inl, inr, ℕ, List, None, refl, sym, subst}
-use Rattle.card_types.specs.ChangeLaws.{IsOfCard}
-use Rattle.card_types.specs.Registry.{Registry, domain_of}
-use Rattle.card_types.specs.Well.{IsDomainNamed}
+use Rattle.policy_machine.specs.Prelude.{Admitted, HasPowerOver, InTreeOf, IsAboveIn, IsAtOrAbove, IsDomainNamed, IsEntrusted, IsMember, IsOfCard, Member, Registry, StepsStay, TreeStays, acting, domain_of, place_of}
 use Rattle.domain_tree.proofs.Compared.{above_compared, above_further, not_above_each_other}
 use Rattle.domain_tree.proofs.LinesStay.{above_stays, line_stays}
-use Rattle.domain_tree.specs.Above.{IsAboveIn}
-use Rattle.domain_tree.specs.LineLaws.{StepsStay}
-use Rattle.policy_machine.specs.Admission.{Admitted}
-use Rattle.policy_machine.specs.Charge.{IsAtOrAbove}
-use Rattle.policy_machine.specs.Isolation.{HasPowerOver, IsEntrusted}
-use Rattle.policy_machine.specs.Management.{acting}
-use Rattle.policy_machine.specs.Trees.{InTreeOf, IsMember, Member, TreeStays, place_of}
 use Rattle.policy_machine.proofs.TreesAlike.{LeavesTree, places_alike}
 use Rattle.policy_machine.proofs.Strangers.{above_apart, above_out, lower_has_domain, named_has_domain, nothing_common, upper_named}
 

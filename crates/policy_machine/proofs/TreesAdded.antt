@@ -8,19 +8,9 @@ use Rattle.card_types.proofs.LeastOfList.{none_fits}
 use Rattle.card_types.proofs.Members.{contains_later}
 use Rattle.card_types.proofs.NamedThings.{new_or_old}
 use Rattle.card_types.proofs.SameAid.{same_aid_decides}
-use Rattle.card_types.specs.Aid.{same_aid}
-use Rattle.card_types.specs.ChangeLaws.{MayAddEntry}
-use Rattle.card_types.specs.Registry.{Entry, Registry, domain_of}
-use Rattle.card_types.specs.RegistryChange.{IsEntryAdded}
-use Rattle.card_types.specs.Well.{IsDomainNamed, IsWellFile, IsWellKey, IsWellObject}
+use Rattle.policy_machine.specs.Prelude.{AFile, AKey, Admitted, AnEntry, AnObject, Entry, InTreeOf, IsAboveIn, IsAtOrAbove, IsDomainNamed, IsEntrusted, IsEntryAdded, IsMember, IsWellFile, IsWellKey, IsWellObject, MayAddEntry, Member, Registry, acting, domain_of, place_of, same_aid}
 use Rattle.domain_tree.proofs.AboveChanges.{above_added, above_others_of_added}
 use Rattle.domain_tree.proofs.DomainsStay.{domains_after_entry_added}
-use Rattle.domain_tree.specs.Above.{IsAboveIn}
-use Rattle.policy_machine.specs.Admission.{Admitted}
-use Rattle.policy_machine.specs.Charge.{IsAtOrAbove}
-use Rattle.policy_machine.specs.Isolation.{IsEntrusted}
-use Rattle.policy_machine.specs.Management.{acting}
-use Rattle.policy_machine.specs.Trees.{AFile, AKey, AnEntry, AnObject, InTreeOf, IsMember, Member, place_of}
 use Rattle.policy_machine.proofs.Strangers.{named_has_domain, not_below}
 use Rattle.policy_machine.proofs.TreeKept.{AreApart, KeepsElsewhere, SparesTree, spares_tree}
 

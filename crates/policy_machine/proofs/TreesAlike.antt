@@ -4,14 +4,9 @@ use Rattle.std.specs.Prelude.{◌↔◌, Contains, find, map}
 use Rattle.std.specs.Option.{option_map}
 use Rattle.std.proofs.lemmas.Bool.{cond_both}
 use Rattle.card_types.proofs.Members.{contains_map, mapped}
-use Rattle.card_types.specs.Aid.{same_aid}
-use Rattle.card_types.specs.Registry.{Entry, Key, LoadFile, Object, Registry, domain_of}
-use Rattle.card_types.specs.RegistryChange.{with_entries}
+use Rattle.policy_machine.specs.Prelude.{AFile, AKey, AnEntry, AnObject, Entry, InTreeOf, IsAtOrAbove, IsMember, Key, LoadFile, Member, Object, Registry, StepsStay, TreeStays, domain_of, place_of, same_aid, with_entries}
 use Rattle.domain_tree.proofs.DomainsStay.{domains_after_change}
 use Rattle.domain_tree.proofs.LinesStay.{above_stays, line_stays}
-use Rattle.domain_tree.specs.LineLaws.{StepsStay}
-use Rattle.policy_machine.specs.Charge.{IsAtOrAbove}
-use Rattle.policy_machine.specs.Trees.{AFile, AKey, AnEntry, AnObject, InTreeOf, IsMember, Member, TreeStays, place_of}
 
 -- with the same entries each thing has the same domain
 pub same_entries : (before after : Registry) → after.entries ≡ before.entries → (x : List ℕ) → domain_of after x ≡ domain_of before x

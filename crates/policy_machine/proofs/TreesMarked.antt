@@ -1,10 +1,7 @@
 -- The tree of a domain where entries outside of it get another life cycle state or lock mark.
 use Rattle.std.proofs.Common.{◌≡◌, ℕ, Bool, false, List}
-use Rattle.card_types.specs.Registry.{Entry}
-use Rattle.card_types.specs.RegistryChange.{with_entries}
+use Rattle.policy_machine.specs.Prelude.{Admitted, Entry, IsAtOrAbove, with_entries}
 use Rattle.domain_tree.proofs.DomainsStay.{domains_after_change}
-use Rattle.policy_machine.specs.Admission.{Admitted}
-use Rattle.policy_machine.specs.Charge.{IsAtOrAbove}
 use Rattle.policy_machine.proofs.TreeKept.{AreApart, SparesTree, spares_left}
 use Rattle.policy_machine.proofs.TreesAlike.{entries_leave}
 

@@ -6,21 +6,11 @@ use Rattle.std.proofs.lemmas.List.Elements.{All-contains}
 use Rattle.card_types.proofs.Members.{contains_map, mapped}
 use Rattle.card_types.proofs.NamedThings.{aid_cases, aid_differs}
 use Rattle.card_types.proofs.SameAid.{same_aid_decides}
-use Rattle.card_types.specs.Aid.{same_aid}
-use Rattle.card_types.specs.ChangeLaws.{MayMove}
-use Rattle.card_types.specs.Registry.{Entry, LoadFile, Registry, domain_of, entry_named}
-use Rattle.card_types.specs.RegistryChange.{moved}
-use Rattle.card_types.specs.Well.{IsDomainNamed, IsWellFile, IsWellKey, IsWellObject}
+use Rattle.policy_machine.specs.Prelude.{AFile, AKey, Admitted, AnEntry, AnObject, Entry, InTreeOf, IsAboveIn, IsAtOrAbove, IsDomainNamed, IsEntrusted, IsInCharge, IsMember, IsWellFile, IsWellKey, IsWellObject, LoadFile, MayMove, Member, MovesWith, Registry, acting, domain_of, entry_named, moved, place_of, same_aid}
 use Rattle.domain_tree.proofs.AboveBelow.{above_below_moved}
 use Rattle.domain_tree.proofs.AboveChanges.{above_moved, above_others_of_moved, none_above_root}
 use Rattle.domain_tree.proofs.Compared.{above_decided}
 use Rattle.domain_tree.proofs.DomainsStay.{domains_after_move}
-use Rattle.domain_tree.specs.Above.{IsAboveIn}
-use Rattle.policy_machine.specs.Admission.{Admitted}
-use Rattle.policy_machine.specs.Charge.{IsAtOrAbove, IsInCharge}
-use Rattle.policy_machine.specs.Isolation.{IsEntrusted, MovesWith}
-use Rattle.policy_machine.specs.Management.{acting}
-use Rattle.policy_machine.specs.Trees.{AFile, AKey, AnEntry, AnObject, InTreeOf, IsMember, Member, place_of}
 use Rattle.policy_machine.proofs.ChargeReaches.{charge_above, charge_place, entry_has_domain, file_found, file_has_none}
 use Rattle.policy_machine.proofs.Strangers.{named_has_domain, upper_named}
 use Rattle.policy_machine.proofs.TreeKept.{AreApart, KeepsElsewhere, SparesTree, out_of_reach, spares_tree}

@@ -6,11 +6,7 @@ use Rattle.std.proofs.lemmas.Bool.{not_from_false}
 use Rattle.std.proofs.lemmas.List.Elements.{Contains-append_cases, Contains-append_right}
 use Rattle.std.proofs.lemmas.List.Sorted.{Contains-permutation, IsPermutation-sym}
 use Rattle.card_types.proofs.Members.{contains_filter, filtered}
-use Rattle.card_types.specs.Registry.{Entry, Key, LoadFile, Object, Registry}
-use Rattle.policy_machine.specs.Admission.{Admitted}
-use Rattle.policy_machine.specs.Charge.{IsAtOrAbove}
-use Rattle.policy_machine.specs.Management.{acting}
-use Rattle.policy_machine.specs.Trees.{AFile, AKey, AnEntry, AnObject, IsMember, Member, place_of}
+use Rattle.policy_machine.specs.Prelude.{AFile, AKey, Admitted, AnEntry, AnObject, Entry, IsAtOrAbove, IsMember, Key, LoadFile, Member, Object, Registry, acting, place_of}
 use Rattle.policy_machine.proofs.TreeKept.{AreApart, SparesTree, out_of_reach, spares_left}
 use Rattle.policy_machine.proofs.TreesAlike.{leaves_tree, same_entries}
 

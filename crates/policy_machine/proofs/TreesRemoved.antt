@@ -8,19 +8,8 @@ use Rattle.card_types.proofs.LeastOfList.{found_fits}
 use Rattle.card_types.proofs.Members.{contains_filter, filtered}
 use Rattle.card_types.proofs.NamedThings.{aid_differs, member_named}
 use Rattle.card_types.proofs.SameAid.{aid_same_itself}
-use Rattle.card_types.specs.Aid.{same_aid}
-use Rattle.card_types.specs.ChangeLaws.{IsOfCard}
-use Rattle.card_types.specs.Hierarchy.{IsPath}
-use Rattle.card_types.specs.Registry.{Entry, Key, LoadFile, Object, Registry, domain_of, entry_named}
-use Rattle.card_types.specs.RegistryChange.{without_applications}
-use Rattle.card_types.specs.Well.{IsWellKey, IsWellObject}
+use Rattle.policy_machine.specs.Prelude.{AFile, AKey, Admitted, AnEntry, AnObject, ComesFrom, Entry, IsAboveIn, IsAtOrAbove, IsInCharge, IsMember, IsOfCard, IsPath, IsToGo, IsWellKey, IsWellObject, Key, LoadFile, Member, Object, Registry, acting, domain_of, entry_named, place_of, same_aid, without_applications, without_thing}
 use Rattle.domain_tree.proofs.DomainsStay.{domains_after_applications, domains_after_entry}
-use Rattle.domain_tree.specs.Above.{IsAboveIn}
-use Rattle.policy_machine.specs.Admission.{Admitted}
-use Rattle.policy_machine.specs.Charge.{IsAtOrAbove, IsInCharge}
-use Rattle.policy_machine.specs.DeleteObject.{ComesFrom, IsToGo, without_thing}
-use Rattle.policy_machine.specs.Management.{acting}
-use Rattle.policy_machine.specs.Trees.{AFile, AKey, AnEntry, AnObject, IsMember, Member, place_of}
 use Rattle.policy_machine.proofs.ChargeReaches.{charge_above, charge_place, entry_has_domain}
 use Rattle.policy_machine.proofs.Strangers.{named_has_domain}
 use Rattle.policy_machine.proofs.TreeKept.{AreApart, KeepsElsewhere, SparesTree, out_of_reach, spares_tree}

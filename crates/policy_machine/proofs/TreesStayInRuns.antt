@@ -3,19 +3,9 @@ use Rattle.std.proofs.Common.{◌≡◌, inl, ℕ, true, List, [], ◌∷◌, Op
 use Rattle.std.specs.Prelude.{MatchOption}
 use Rattle.card_types.proofs.LeastOfList.{found_fits}
 use Rattle.card_types.proofs.NamedThings.{member_named}
-use Rattle.card_types.specs.Aid.{same_aid}
-use Rattle.card_types.specs.ChangeLaws.{IsOfCard}
-use Rattle.card_types.specs.Registry.{Entry, Registry, domain_of, entry_named, is_domain}
-use Rattle.card_types.specs.Well.{IsDomainNamed}
+use Rattle.policy_machine.specs.Prelude.{Admitted, AnEntry, Command, Entry, IsAboveIn, IsDomainNamed, IsOfCard, Outcome, Registry, Reset, RootsGetNothing, State, StaysThrough, TreeStays, TreesStayInRuns, domain_of, entry_named, is_domain, powered_on, same_aid}
 use Rattle.card_types.proofs.SameAid.{same_aid_decides}
 use Rattle.domain_tree.proofs.Paths.{root_alone}
-use Rattle.domain_tree.specs.Above.{IsAboveIn}
-use Rattle.policy_machine.specs.Admission.{Admitted}
-use Rattle.policy_machine.specs.Run.{Command, Reset}
-use Rattle.policy_machine.specs.RunsApart.{RootsGetNothing, StaysThrough, TreesStayInRuns}
-use Rattle.policy_machine.specs.State.{State, powered_on}
-use Rattle.policy_machine.specs.Step.{Outcome}
-use Rattle.policy_machine.specs.Trees.{AnEntry, TreeStays}
 use Rattle.policy_machine.proofs.KeepsSound.{starts_sound, steps_keep_sound}
 use Rattle.policy_machine.proofs.TreesStayed.{trees_stay}
 

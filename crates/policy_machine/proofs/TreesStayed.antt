@@ -1,20 +1,7 @@
 -- The tree of a domain that a command spares stays, and what is new in it was entrusted to it.
 use Rattle.std.proofs.Common.{◌≡◌, ◌⊎◌, inl, inr, ℕ, List, None, ap, sym, subst, ◌∙◌}
 use Rattle.std.specs.Prelude.{Contains}
-use Rattle.apdu_core.specs.Apdu.{Apdu}
-use Rattle.card_types.specs.Registry.{Registry}
-use Rattle.card_types.specs.Well.{IsDomainNamed}
-use Rattle.policy_machine.specs.Admission.{Admitted}
-use Rattle.policy_machine.specs.Classes.{changing, channel_of}
-use Rattle.policy_machine.specs.CommandForm.{CommandForm}
-use Rattle.policy_machine.specs.Commands.{TakesCommand, forms_of}
-use Rattle.policy_machine.specs.Isolation.{BringsInto, HasPowerOver, IsEntrusted, Spares}
-use Rattle.policy_machine.specs.RunsApart.{TreesStay}
-use Rattle.policy_machine.specs.Management.{acting}
-use Rattle.policy_machine.specs.Sound.{IsSound}
-use Rattle.policy_machine.specs.State.{State, selected_on}
-use Rattle.policy_machine.specs.Step.{IsAccepted, Outcome}
-use Rattle.policy_machine.specs.Trees.{InTreeOf, Member, TreeStays}
+use Rattle.policy_machine.specs.Prelude.{Admitted, Apdu, BringsInto, CommandForm, HasPowerOver, InTreeOf, IsAccepted, IsDomainNamed, IsEntrusted, IsSound, Member, Outcome, Registry, Spares, State, TakesCommand, TreeStays, TreesStay, acting, changing, channel_of, forms_of, selected_on}
 use Rattle.policy_machine.proofs.AllForms.{all_forms}
 use Rattle.policy_machine.proofs.FormLaws.{FormLaws}
 use Rattle.policy_machine.proofs.FormTaken.{Accepts, accepting_form, pick_form}

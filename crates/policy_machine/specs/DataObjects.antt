@@ -20,14 +20,7 @@ with_objects owner objects elements = fold (with_object owner) objects elements
 
 -- the registry with other data objects
 abbrev pub with_data : Registry → List Object → Registry
-with_data registry objects = record {
-  life = registry.life;
-  entries = registry.entries;
-  files = registry.files;
-  keys = registry.keys;
-  counters = registry.counters;
-  objects = objects;
-}
+with_data registry objects = record registry { objects = objects }
 
 -- For the code inside. Data objects as a list of elements, and how many more these make.
 

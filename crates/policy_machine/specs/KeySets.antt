@@ -59,11 +59,4 @@ counters_but owner version counters = filter (λ counter. not (is_counter_number
 
 -- the registry with other keys and sequence counters
 abbrev pub with_keys : Registry → List Key → List Counter → Registry
-with_keys registry keys counters = record {
-  life = registry.life;
-  entries = registry.entries;
-  files = registry.files;
-  keys = keys;
-  counters = counters;
-  objects = registry.objects;
-}
+with_keys registry keys counters = record registry { keys = keys; counters = counters }

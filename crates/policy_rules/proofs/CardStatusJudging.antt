@@ -1,29 +1,20 @@
 -- The rules of SET STATUS of the card after its form, by the step that is asked for.
 use Rattle.std.proofs.Common.{◌≡◌, ◌≢◌, ◌↔◌, ◌⊎◌, ℕ, true, List, Option, None, Some, refl, sym, subst, ◌∙◌, inl, inr, arith}
 use Rattle.std.specs.Prelude.{IsTrue}
-use Rattle.apdu_core.specs.Apdu.{Apdu}
-use Rattle.card_types.specs.CardLife.{card_life_code}
+use Rattle.policy_rules.specs.Prelude.{ActsIn, Admitted, Apdu, FailsFirst, Holds, IsCardStatusOf, IsCardStep, IsLocking, IsPreparing, IsStepBy, IsTerminating, ManagementFails, MayStep, OwnFirst, SettingCardFails, acting, card_life_code, card_lock, card_terminate, command_form, managed_card_status}
 use Rattle.card_types.specs.declared.card_life.CardLife.{CardLife}
 use Rattle.card_types.specs.declared.card_life.CardLife.TheVariants.{Initialized, Secured, Locked, Terminated}
 use Rattle.card_types.specs.declared.factory.TheConstants.{ISSUER}
 use Rattle.card_types.specs.declared.tables.Tables.{Tables}
-use Rattle.policy_machine.specs.Admission.{Admitted}
-use Rattle.policy_machine.specs.CardStatus.{IsCardStep, IsLocking, IsPreparing, IsTerminating, card_lock, card_terminate, SettingCardFails, managed_card_status}
-use Rattle.policy_machine.specs.Delegation.{Holds}
-use Rattle.policy_machine.specs.Management.{ManagementFails, acting}
 use Rattle.policy_machine.specs.declared.card_status.RuleSC.TheVariants.{SC1, SC2}
 use Rattle.policy_machine.specs.declared.management.RuleM.TheVariants.{M2, M3}
 use Rattle.policy_machine.specs.declared.rule.Rule.{Rule}
 use Rattle.policy_machine.specs.declared.rule.Rule.TheVariants.{SC}
-use Rattle.policy_machine.specs.CommandForm.{FailsFirst}
 use Rattle.policy_machine.specs.declared.card_status.RuleSC.{RuleSC}
 use Rattle.policy_machine.proofs.CardStatusLaws.{card_status_judgeable}
 use Rattle.policy_machine.proofs.ManagedJudging.{own_refuses, two_pass, approval_decides}
-use Rattle.policy_machine.specs.ManagedForm.{OwnFirst, command_form}
-use Rattle.policy_rules.specs.SetStatusRequests.{IsCardStatusOf, IsStepBy, MayStep}
 use Rattle.policy_rules.specs.declared.card_status.CardStep.{CardStep}
 use Rattle.policy_rules.specs.declared.card_status.CardStep.TheVariants.{Prepare, Lock, Terminate}
-use Rattle.policy_slots.specs.StateShown.{ActsIn}
 
 -- it is the card's own state that is set
 pub of_card : (code : ℕ) (command : Apdu) → IsCardStatusOf code command → IsTrue true ↔ (command.p1 ≡ 0x80)

@@ -3,9 +3,7 @@ use Rattle.std.proofs.Common.{◌≡◌, ℕ, suc, ◌+◌, ◌<◌, List, [], �
 use Rattle.std.specs.Prelude.{cond, nat_lt, not, position, is_none, slice_index_or}
 use Rattle.std.specs.List.{position_or_len}
 use Rattle.card_types.specs.declared.tables.Entry.{Entry}
-use Rattle.policy_machine.specs.ManageChannel.{is_closed, lowest_closed}
-use Rattle.policy_machine.specs.State.{Channel}
-use Rattle.policy_slots.specs.StateShown.{IsSelectedIn}
+use Rattle.policy_rules.specs.Prelude.{Channel, IsSelectedIn, is_closed, lowest_closed}
 
 closed_alike : (entries : List (Option Entry)) (slot : Option ℕ) (channel : Option Channel) → IsSelectedIn entries slot channel → is_closed channel ≡ is_none slot
 closed_alike entries None None selected = refl

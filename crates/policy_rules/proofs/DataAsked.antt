@@ -1,16 +1,10 @@
 -- Where something was found for a tag, there is such data.
 use Rattle.std.proofs.Common.{◌≡◌, ◌≢◌, ℕ, List, [], ◌∷◌, ◌++◌, None, Some, refl, sym, subst, ◌∙◌, inl, inr, length, arith}
 use Rattle.std.specs.Prelude.{map}
-use Rattle.bertlv.specs.Spelling.{AreElements, Spelling}
+use Rattle.policy_rules.specs.Prelude.{Admitted, AreElements, AsksFor, HasData, IsFor, Represents, Spelling, Well, domain_aid, held, key_information, key_of, selected_on, tag_of}
 use Rattle.card_types.specs.Registry as registry
-use Rattle.card_types.specs.Represents.{Represents, domain_aid, key_of, held}
-use Rattle.card_types.specs.Well.{Well}
 use Rattle.card_types.specs.declared.tables.Entry.{Entry}
 use Rattle.card_types.specs.declared.tables.Tables.{Tables}
-use Rattle.policy_machine.specs.Admission.{Admitted}
-use Rattle.policy_machine.specs.GetData.{AsksFor, HasData, key_information, tag_of}
-use Rattle.policy_machine.specs.State.{selected_on}
-use Rattle.policy_rules.specs.Found.{IsFor}
 use Rattle.policy_rules.specs.declared.get_data.Datum.{Datum}
 use Rattle.policy_rules.specs.declared.get_data.Datum.TheVariants.{Keys, Counter, Object}
 use Rattle.policy_slots.proofs.OwnKeys.{keys_are, keys_from_next, next_named}

@@ -3,23 +3,15 @@ use Rattle.std.proofs.Common.{◌≡◌, ◌≢◌, ℕ, ◌<◌, Bool, true, fa
 use Rattle.std.specs.Prelude.{◌==◌}
 use Rattle.std.proofs.lemmas.Bool.Decides.{eqb_tells}
 use Rattle.std.proofs.lemmas.List.Elements.{All-contains}
-use Rattle.bertlv.specs.Tag.{IsTag}
+use Rattle.policy_rules.specs.Prelude.{HasData, IsDataObject, IsObject, IsSequenceCounter, IsTag, IsWellCounter, IsWellObject, NoneFits, Represents, UsesCounter, Well, counter_bytes, counter_of, domain_aid, follows, held, object_of, same_aid}
 use Rattle.card_types.proofs.LeastOfList.{found_fits}
 use Rattle.card_types.proofs.ObjectNames.{object_in_slot, object_unnamed, objects_shown}
-use Rattle.card_types.specs.Aid.{same_aid}
-use Rattle.card_types.specs.Search.{NoneFits}
 use Rattle.card_types.specs.Registry as registry
-use Rattle.card_types.specs.Represents.{Represents, counter_of, domain_aid, object_of, held}
-use Rattle.card_types.specs.Well.{IsObject, IsWellCounter, IsWellObject, Well}
 use Rattle.card_types.specs.declared.tables.Entry.{Entry}
 use Rattle.card_types.specs.declared.tables.KeyRec.{KeyRec}
 use Rattle.card_types.specs.declared.tables.Object.{Object}
 use Rattle.card_types.specs.declared.tables.Tables.{Tables}
-use Rattle.scp03_card.specs.Offer.{counter_bytes}
-use Rattle.policy_machine.specs.GetData.{HasData, IsDataObject, IsSequenceCounter}
-use Rattle.policy_machine.specs.KeySets.{UsesCounter}
 use Rattle.policy_slots.proofs.OwnKeys.{keys_are, keys_from_none, none_named}
-use Rattle.policy_slots.specs.KeyOrder.{follows}
 
 -- each tag that a data object may have is one
 tag_of_object : (tag size : ℕ) → IsObject tag size → IsTag tag

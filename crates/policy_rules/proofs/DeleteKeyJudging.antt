@@ -3,22 +3,15 @@ use Rattle.std.proofs.Common.{◌≡◌, ℕ, Bool, true, List, Option, ap, sym,
 use Rattle.card_types.specs.declared.tables.KeyRec.{KeyRec}
 use Rattle.card_types.specs.declared.tables.Tables.{Tables}
 use Rattle.key_rules.specs.PutFails as slots
-use Rattle.policy_machine.specs.Admission.{Admitted}
-use Rattle.policy_machine.specs.DeleteKey.{NamesPart, DeletingKeyFails, KeyChosen, managed_delete_key}
-use Rattle.policy_machine.specs.KeySets.{has_key_version}
-use Rattle.policy_machine.specs.Management.{acting, ManagementFails}
+use Rattle.policy_rules.specs.Prelude.{ActsIn, Admitted, DeletingKeyFails, IsRequestOf, Judges, KeyChosen, ManagementFails, NamesPart, OwnFirst, acting, has_key_version, managed_delete_key}
 use Rattle.policy_machine.specs.declared.delete_key.RuleDK.TheVariants.{DK1}
 use Rattle.policy_machine.specs.declared.rule.Rule.TheVariants.{DK}
-use Rattle.policy_machine.specs.Commands.{Judges}
 use Rattle.policy_machine.specs.declared.management.RuleM.TheVariants.{M1, M2}
 use Rattle.policy_machine.specs.declared.delete_key.RuleDK.{RuleDK}
 use Rattle.policy_machine.proofs.DeleteKeyLaws.{delete_key_judgeable, deletion_judged}
 use Rattle.policy_machine.proofs.ManagedJudging.{own_refuses, approval_decides, two_pass}
-use Rattle.policy_machine.specs.ManagedForm.{OwnFirst}
-use Rattle.policy_rules.specs.Requests.{IsRequestOf}
 use Rattle.policy_rules.specs.declared.request.Request.TheVariants.{DeleteKey}
 use Rattle.policy_slots.proofs.KeysByName.{has_version_by_name}
-use Rattle.policy_slots.specs.StateShown.{ActsIn}
 
 -- the domain that a command acts for has keys by its slot exactly where it has them by its name
 pub acting_has_version : (page : ℕ → List ℕ) (tables : Tables) (domain : ℕ) (admitted : Admitted) → ActsIn page tables domain admitted

@@ -7,20 +7,11 @@ use Rattle.card_types.proofs.Domains.{domain_is_used, same_domain, step_from_use
 use Rattle.card_types.proofs.KeyNames.{counters_shown}
 use Rattle.card_types.proofs.LeastOfList.{none_fits, none_found}
 use Rattle.card_types.proofs.Members.{contains_filter, filtered}
-use Rattle.card_types.specs.Aid.{same_aid}
-use Rattle.card_types.specs.Registry.{Counter}
-use Rattle.card_types.specs.Represents.{counter_of, domain_aid, domain_slot, keeps_counter, held}
-use Rattle.card_types.specs.Well.{IsRoot}
+use Rattle.policy_rules.specs.Prelude.{ActsIn, Admitted, Counter, IsLastSet, IsRoot, acting, counter_of, counters_but, domain_aid, domain_slot, held, holds_counter_but, is_counter_numbered, keeps_counter, keeps_counter_of, same_aid}
 use Rattle.card_types.specs.declared.tables.KeyRec.{KeyRec}
 use Rattle.card_types.specs.declared.tables.Tables.{Tables}
-use Rattle.policy_machine.specs.Admission.{Admitted}
-use Rattle.policy_machine.specs.DeleteKey.{IsLastSet}
-use Rattle.policy_machine.specs.KeySets.{counters_but, is_counter_numbered}
-use Rattle.policy_machine.specs.Management.{acting}
 use Rattle.policy_slots.proofs.AnySlot.{passing_slot, slot_passes}
 use Rattle.policy_slots.proofs.OwnKeys.{own_is}
-use Rattle.policy_slots.specs.StateShown.{ActsIn}
-use Rattle.policy_slots.specs.KeyOrder.{holds_counter_but, keeps_counter_of}
 
 -- where both are not true and the first is, the second is not
 other_false : (a b : Bool) → not (a && b) ≡ true → a ≡ true → not b ≡ true

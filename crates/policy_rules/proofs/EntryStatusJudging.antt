@@ -4,33 +4,22 @@ use Rattle.std.specs.Prelude.{IfNone, IfSome, MatchOption}
 use Rattle.std.specs.Option.{option_map}
 use Rattle.std.proofs.lemmas.Bool.{eq-eqb, eqb-true}
 use Rattle.card_types.proofs.SameAid.{same_aid_decides}
-use Rattle.card_types.specs.Aid.{same_aid, IsAid}
-use Rattle.card_types.specs.Found.{aid_of}
+use Rattle.policy_rules.specs.Prelude.{ActsIn, Admitted, FailsFirst, IsAid, IsChangeFor, IsDomainNamed, IsEntryStatusOf, IsEntryStep, IsSlotStep, ManagementFails, Marks, MaySet, OwnFirst, SettingStatusFails, TellsCard, aid_of, command_form, entry_named, entry_of, held, is_domain, managed_entry_status, same_aid}
 use Rattle.card_types.specs.Registry as registry
-use Rattle.card_types.specs.Registry.{entry_named, is_domain}
-use Rattle.card_types.specs.Represents.{entry_of, held}
-use Rattle.card_types.specs.Well.{IsDomainNamed}
 use Rattle.card_types.specs.declared.factory.TheConstants.{ISSUER}
 use Rattle.card_types.specs.declared.found.Found.TheVariants as found
 use Rattle.card_types.specs.declared.life.LifeMark.{LifeMark}
 use Rattle.card_types.specs.declared.tables.Entry.{Entry}
 use Rattle.card_types.specs.declared.tables.Tables.{Tables}
-use Rattle.policy_machine.specs.Admission.{Admitted}
-use Rattle.policy_machine.specs.EntryStatus.{IsEntryStep, Marks, SettingStatusFails, managed_entry_status}
-use Rattle.policy_machine.specs.Management.{ManagementFails}
 use Rattle.policy_machine.specs.declared.entry_status.RuleSS.{RuleSS}
 use Rattle.policy_machine.specs.declared.entry_status.RuleSS.TheVariants.{SS1, SS2, SS3, SS4}
 use Rattle.policy_machine.specs.declared.management.RuleM.TheVariants.{M2, M3}
 use Rattle.policy_machine.specs.declared.rule.Rule.TheVariants.{SS}
-use Rattle.policy_machine.specs.CommandForm.{FailsFirst}
-use Rattle.policy_rules.specs.SetStatusRequests.{IsChangeFor, IsEntryStatusOf, IsSlotStep, MaySet}
 use Rattle.policy_rules.specs.declared.entry_status.EntryStatusRequest.{EntryStatusRequest}
 use Rattle.policy_rules.specs.declared.entry_status.StatusChange.TheVariants.{One, Tree}
 use Rattle.policy_slots.proofs.ThingsFound.{IsEntryAt, entry_at, named_as}
-use Rattle.policy_slots.specs.StateShown.{ActsIn, TellsCard}
 use Rattle.policy_machine.proofs.EntryStatusLaws.{entry_status_judgeable}
 use Rattle.policy_machine.proofs.ManagedJudging.{two_pass, own_refuses, approval_decides}
-use Rattle.policy_machine.specs.ManagedForm.{OwnFirst, command_form}
 
 -- its own rules after those of management
 pub own_status_first : (admitted : Admitted) → IsAid admitted.command.body → (ManagementFails admitted M2 → ⊥) × (ManagementFails admitted M3 → ⊥)

@@ -1,16 +1,10 @@
 -- The rules of GET STATUS after its form, by its request.
 use Rattle.std.proofs.Common.{◌≡◌, inl, inr, ℕ, List, ◌∷◌, Option, None, Some, refl, ap, sym, subst, ◌∙◌, arith}
 use Rattle.std.specs.Prelude.{MatchOption}
-use Rattle.bertlv.specs.Spelling.{Element}
-use Rattle.policy_machine.specs.Admission.{Admitted}
-use Rattle.policy_machine.specs.Refusal.{IsFirst}
-use Rattle.policy_machine.specs.GetStatus.{BeginsAbove, GetStatusFails, IsListed, IsPlaceOf, IsSearch, ListingFails, get_status_rules, place_before, tag_list}
-use Rattle.policy_machine.specs.Management.{ManagementFails, acting}
-use Rattle.policy_machine.specs.State.{Place}
+use Rattle.policy_rules.specs.Prelude.{Admitted, BeginsAbove, Element, GetStatusFails, IsFirst, IsListOf, IsListed, IsNextListed, IsPlaceOf, IsSearch, ListingFails, ManagementFails, NoneListed, Place, acting, get_status_rules, place_before, tag_list}
 use Rattle.policy_machine.specs.declared.get_status.RuleGS.TheVariants.{GS1, GS2}
 use Rattle.policy_machine.specs.declared.management.RuleM.TheVariants.{M2}
 use Rattle.policy_machine.specs.declared.rule.Rule.TheVariants.{GS, M}
-use Rattle.policy_rules.specs.GetStatusRequests.{IsListOf, IsNextListed, NoneListed}
 use Rattle.policy_rules.specs.declared.get_status.ListRequest.{ListRequest}
 use Rattle.card_types.specs.declared.found.Found.{Found}
 use Rattle.card_types.specs.declared.tables.Tables.{Tables}

@@ -11,9 +11,7 @@ use Rattle.std.proofs.lemmas.Cmp.{nat_list_cmp_total}
 use Rattle.card_types.proofs.Next.{held_from_name}
 use Rattle.card_types.proofs.NotAbove.{not_above_self, not_above_third, not_below}
 use Rattle.card_types.proofs.Shows.{Shows, shows_used}
-use Rattle.card_types.specs.Aid.{NotAbove, aid_order}
-use Rattle.card_types.specs.Found.{IsAbove, aid_of}
-use Rattle.card_types.specs.Represents.{HasLayout, Represents, entry_of, file_of, held}
+use Rattle.policy_rules.specs.Prelude.{AFile, ActsIn, Admitted, AnEntry, HasLayout, IsAbove, IsIn, IsListed, IsListedAs, IsListedAt, IsListedBy, IsNextListed, IsThingAt, NoneListed, NotAbove, Represents, Sees, Thing, acting, aid_in, aid_of, aid_order, entry_of, file_of, found_in, held, lower_of}
 use Rattle.card_types.specs.Registry as registry
 use Rattle.card_types.specs.declared.factory.TheConstants.{ISSUER}
 use Rattle.card_types.specs.declared.found.Found.{Found}
@@ -22,11 +20,6 @@ use Rattle.card_types.specs.declared.limits.TheConstants.{ENTRIES}
 use Rattle.card_types.specs.declared.tables.Entry.{Entry}
 use Rattle.card_types.specs.declared.tables.LoadFile.{LoadFile}
 use Rattle.card_types.specs.declared.tables.Tables.{Tables}
-use Rattle.policy_machine.specs.Admission.{Admitted}
-use Rattle.policy_machine.specs.GetStatus.{AFile, AnEntry, IsIn, IsListed, IsListedBy, Sees, Thing, aid_in}
-use Rattle.policy_machine.specs.Management.{acting}
-use Rattle.policy_rules.specs.GetStatusRequests.{IsListedAs, IsListedAt, IsNextListed, IsThingAt, NoneListed, found_in, lower_of}
-use Rattle.policy_slots.specs.StateShown.{ActsIn}
 
 -- what a slot holds is in one of the slots
 held_within : {T : Type 0} (slots : List (Option T)) (slot : ℕ) (thing : T) → held slots slot ≡ Some thing → slot < length slots

@@ -11,16 +11,9 @@ use Rattle.std.proofs.lemmas.List.Elements.{All-contains, All-contains_itself, A
 use Rattle.card_types.proofs.LeastOfList.{first_below, found_fits, names_sorted, others_sorted, sorted_by_name}
 use Rattle.card_types.proofs.Members.{contains_cases, contains_first, contains_later, contains_map, mapped}
 use Rattle.card_types.proofs.SameAid.{same_aid_decides}
-use Rattle.card_types.specs.Aid.{aid_order, same_aid}
-use Rattle.card_types.specs.Registry.{IsAscending, Entry, Registry, domain_of, entry_named, is_domain}
-use Rattle.card_types.specs.Found.{IsAbove}
-use Rattle.card_types.specs.Hierarchy.{IsLine, IsPath}
-use Rattle.card_types.specs.Well.{IsDomainNamed, IsWellEntry, IsWellFile, LeadsToRoot, Well}
+use Rattle.policy_rules.specs.Prelude.{AFile, Above, AnEntry, Entry, IsAbove, IsAscending, IsAtOrAbove, IsDomainNamed, IsIn, IsLine, IsListed, IsListedBy, IsPath, IsWellEntry, IsWellFile, LeadsToRoot, Registry, Sees, Thing, Well, aid_in, aid_order, domain_of, entry_named, global_registry, is_domain, is_privileged, same_aid}
 use Rattle.card_types.specs.declared.factory.TheConstants.{ISSUER}
 use Rattle.domain_tree.proofs.Paths.{root_alone}
-use Rattle.domain_tree.specs.Above.{Above}
-use Rattle.policy_machine.specs.Charge.{IsAtOrAbove, is_privileged}
-use Rattle.policy_machine.specs.GetStatus.{AFile, AnEntry, IsIn, IsListed, IsListedBy, Sees, Thing, aid_in, global_registry}
 
 -- it is so or it is not
 abbrev Decided : Type 0 → Type 0

@@ -1,8 +1,7 @@
 -- The data field of a GET STATUS, read from the front.
 use Rattle.std.proofs.Common.{◌≡◌, ◌⊎◌, inl, inr, ℕ, ◌<◌, ◌≤◌, List, [], ◌∷◌, ◌++◌, length, Option, None, Some, ap, subst, arith}
 use Rattle.std.proofs.lemmas.List.{nil_from_length}
-use Rattle.bertlv.specs.Spelling.{AreElements, BeginsWith, Element, Spelling}
-use Rattle.policy_machine.specs.GetStatus.{IsSearch, tag_list}
+use Rattle.policy_rules.specs.Prelude.{AreElements, BeginsWith, Element, IsSearch, Spelling, tag_list}
 use Rattle.policy_machine.proofs.StoreDataElements.{elements_behind}
 
 abbrev spelled_as : ℕ → List ℕ → Element

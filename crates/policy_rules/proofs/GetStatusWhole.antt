@@ -9,16 +9,9 @@ use Rattle.std.proofs.lemmas.Cmp.{nat_list_cmp_total}
 use Rattle.card_types.proofs.LeastOfList.{first_below, names_sorted, others_sorted, sorted_by_name}
 use Rattle.card_types.proofs.Members.{contains_cases, contains_first, contains_later}
 use Rattle.card_types.proofs.NotAbove.{not_above_self}
-use Rattle.card_types.specs.Aid.{NotAbove, aid_order}
-use Rattle.card_types.specs.Registry.{IsAscending}
-use Rattle.card_types.specs.Found.{IsAbove}
-use Rattle.card_types.specs.Well.{Well}
+use Rattle.policy_rules.specs.Prelude.{Admitted, BeginsAbove, IsAbove, IsAscending, IsListed, IsListing, IsNextListed, IsSearch, IsToBeShown, NoneListed, NotAbove, Thing, Well, acting, aid_in, aid_order, last_aid}
 use Rattle.card_types.specs.declared.found.Found.{Found}
 use Rattle.card_types.specs.declared.tables.Tables.{Tables}
-use Rattle.policy_machine.specs.Admission.{Admitted}
-use Rattle.policy_machine.specs.GetStatus.{BeginsAbove, IsListed, IsListing, IsSearch, IsToBeShown, Thing, aid_in, last_aid}
-use Rattle.policy_machine.specs.Management.{acting}
-use Rattle.policy_rules.specs.GetStatusRequests.{IsNextListed, NoneListed}
 use Rattle.policy_rules.proofs.GetStatusJudging.{one_beginning, one_search}
 use Rattle.policy_rules.proofs.GetStatusListing.{first_of_sorted, listed_in_order, sorted_none, sorted_one}
 

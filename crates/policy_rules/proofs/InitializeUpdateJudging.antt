@@ -6,22 +6,13 @@ use Rattle.card_types.proofs.Domains.{domain_aid_is}
 use Rattle.card_types.proofs.EntryNames.{entry_in_slot}
 use Rattle.card_types.proofs.KeyNames.{counters_shown}
 use Rattle.card_types.proofs.SameAid.{same_aid_decides}
-use Rattle.card_types.specs.Aid.{same_aid}
-use Rattle.card_types.specs.Counters.{HasNextCounter}
-use Rattle.card_types.specs.Represents.{IsInOrder, Represents, counter_of, domain_aid, entry_of, keeps_counter, held}
+use Rattle.policy_rules.specs.Prelude.{Admitted, AsksForSet, HasNextCounter, InitializeUpdateFails, IsFirst, IsInOrder, IsWellCounter, Represents, UsesSet, Well, acting, counter_of, domain_aid, entry_of, held, is_card_locked, keeps_counter, offer_rules, same_aid, set_counter}
 use Rattle.card_types.specs.Registry as registry
-use Rattle.card_types.specs.Well.{IsWellCounter, Well}
 use Rattle.card_types.specs.declared.factory.TheConstants.{ISSUER}
 use Rattle.card_types.specs.declared.limits.TheConstants.{COUNTER_LIMIT}
 use Rattle.card_types.specs.declared.tables.Entry.{Entry}
 use Rattle.card_types.specs.declared.tables.KeyRec.{KeyRec}
 use Rattle.card_types.specs.declared.tables.Tables.{Tables}
-use Rattle.policy_machine.specs.Admission.{Admitted}
-use Rattle.policy_machine.specs.Refusal.{IsFirst}
-use Rattle.policy_machine.specs.InitializeUpdate.{AsksForSet, InitializeUpdateFails, offer_rules}
-use Rattle.policy_machine.specs.KeySets.{UsesSet, set_counter}
-use Rattle.policy_machine.specs.Management.{acting}
-use Rattle.policy_machine.specs.Select.{is_card_locked}
 use Rattle.policy_machine.specs.declared.initialize_update.RuleIU.TheVariants.{IU1, IU2, IU3}
 use Rattle.policy_machine.specs.declared.management.RuleM.TheVariants.{M2}
 use Rattle.policy_machine.specs.declared.rule.Rule.{Rule}

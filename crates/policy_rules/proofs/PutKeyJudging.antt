@@ -1,33 +1,23 @@
 -- The rules of PUT KEY after those of card content management, by slots and by names.
 use Rattle.std.proofs.Common.{◌≡◌, ◌≢◌, ℕ, true, false, List, [], ◌∷◌, Option, None, Some, Err, Ok, length, refl, ap, sym, subst, ◌∙◌, inl, inr, arith}
 use Rattle.std.specs.Prelude.{OnOk, Result, filter}
-use Rattle.card_types.specs.Aid.{same_aid}
+use Rattle.policy_rules.specs.Prelude.{ActsIn, Admitted, IsFirst, IsRequestOf, KeysAsked, ManagementFails, NoneHolds, PutFails, PuttingKeyFails, SaysChecks, acting, command_form, has_key_version, key_count, key_rules, keys_but, keys_left, managed_put_key, own_keys_left, same_aid, sent_keys, version_rules}
 use Rattle.card_types.specs.declared.tables.Tables.{Tables}
 use Rattle.key_rules.specs.PutFails as slots
-use Rattle.key_rules.specs.PutFails.{NoneHolds, PutFails}
 use Rattle.key_rules.specs.Staying as slots_of
 use Rattle.key_rules.specs.declared.refusal.PutRefusal.{PutRefusal}
 use Rattle.key_rules.specs.declared.refusal.PutRefusal.TheVariants.{Unknown, Taken, Full}
-use Rattle.policy_machine.specs.Admission.{Admitted}
-use Rattle.policy_machine.specs.Refusal.{IsFirst}
-use Rattle.policy_machine.specs.KeySets.{has_key_version, keys_but}
-use Rattle.policy_machine.specs.Management.{ManagementFails, acting}
-use Rattle.policy_machine.specs.PutKey.{SaysChecks, key_count, keys_left, own_keys_left, KeysAsked, PuttingKeyFails, managed_put_key}
-use Rattle.policy_machine.specs.PutKeyRules.{key_rules, version_rules}
 use Rattle.policy_machine.specs.declared.management.RuleM.TheVariants.{M1, M2}
 use Rattle.policy_machine.specs.declared.put_key.RulePK.TheVariants.{PK1, PK2, PK3, PK4}
 use Rattle.policy_machine.specs.declared.rule.Rule.{Rule}
 use Rattle.policy_machine.specs.declared.rule.Rule.TheVariants.{PK}
 use Rattle.policy_machine.specs.declared.put_key.RulePK.{RulePK}
 use Rattle.policy_machine.proofs.PutKeyOnce.{one_put, put_fails}
-use Rattle.policy_machine.specs.ManagedForm.{command_form}
-use Rattle.policy_rules.specs.Requests.{IsRequestOf, sent_keys}
 use Rattle.policy_rules.specs.declared.put_key.PutKeys.{PutKeys}
 use Rattle.policy_rules.specs.declared.request.Request.TheVariants.{PutKey}
 use Rattle.policy_slots.proofs.KeyCounts as by_slots
 use Rattle.policy_slots.proofs.KeysByName.{has_version_by_name}
 use Rattle.policy_slots.proofs.ManagementFirst.{behind_management}
-use Rattle.policy_slots.specs.StateShown.{ActsIn}
 
 module _ (page : ℕ → List ℕ) (tables : Tables) (domain : ℕ) (admitted : Admitted) (acts : ActsIn page tables domain admitted)
     (replaced version : ℕ) (keys : PutKeys) (request : IsRequestOf (PutKey replaced version keys) admitted.command) where

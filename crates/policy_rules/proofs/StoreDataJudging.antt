@@ -2,31 +2,20 @@
 use Rattle.std.proofs.Common.{inl, inr, ℕ, ◌≤◌, ◌<◌, List, length, sym, subst, arith, ◌≡◌, ap, ◌∙◌, ◌+◌, None, Some, refl, Option}
 use Rattle.std.specs.Prelude.{map}
 use Rattle.std.proofs.lemmas.List.Sorted.{length_permutation, IsPermutation-refl}
-use Rattle.bertlv.specs.Spelling.{Element, AreElements}
+use Rattle.policy_rules.specs.Prelude.{ActsIn, Admitted, AreElements, Element, FailsFirst, HasObjects, IsFirst, Judges, ManagementFails, StoreDataField, StoringFails, TakesCommand, acting, command_form, has_object_in, is_object_of, managed_store_data, new_tags, object_of, objects_stored, used}
 use Rattle.card_types.specs.declared.limits.TheConstants.{OBJECTS}
-use Rattle.policy_machine.specs.Admission.{Admitted}
-use Rattle.policy_machine.specs.Management.{acting, ManagementFails}
-use Rattle.policy_machine.specs.DataObjects.{is_object_of, new_tags}
-use Rattle.policy_machine.specs.StoreData.{objects_stored, HasObjects, StoreDataField, managed_store_data, StoringFails}
 use Rattle.policy_machine.specs.declared.rule.Rule.TheVariants.{SD}
 use Rattle.policy_machine.specs.declared.store_data.RuleSD.TheVariants.{SD1}
 use Rattle.std.specs.List.{list_any}
 use Rattle.std.proofs.lemmas.List.{length-map}
-use Rattle.card_types.specs.Represents.{object_of, used}
 use Rattle.card_types.specs.declared.tables.Tables.{Tables}
 use Rattle.policy_machine.proofs.StoredCount.{stored_count}
 use Rattle.policy_slots.proofs.ObjectsNamed.{has_alike}
-use Rattle.policy_machine.specs.Refusal.{IsFirst}
-use Rattle.policy_slots.specs.ObjectsHeld.{has_object_in}
 use Rattle.policy_machine.specs.declared.management.RuleM.TheVariants.{M1, M2}
-use Rattle.policy_machine.specs.Commands.{TakesCommand, Judges}
 use Rattle.policy_machine.proofs.Judging.{judged}
 use Rattle.policy_machine.specs.declared.rule.Rule.{Rule}
-use Rattle.policy_machine.specs.CommandForm.{FailsFirst}
 use Rattle.policy_machine.proofs.ManagedJudging.{two_pass, own_refuses, approval_decides}
-use Rattle.policy_machine.specs.ManagedForm.{command_form}
 use Rattle.policy_machine.proofs.StoreDataLaws.{store_judgeable}
-use Rattle.policy_slots.specs.StateShown.{ActsIn}
 
 module _ (page : ℕ → List ℕ) (tables : Tables) (domain : ℕ) (admitted : Admitted) (acts : ActsIn page tables domain admitted) where
   -- the objects that there would be are counted by slots

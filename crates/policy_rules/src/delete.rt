@@ -5,7 +5,7 @@ ghost use Rattle.policy_rules.specs.Requests.{Parses};
 
 use crate::delete_key::parse_delete_key;
 use crate::request::Request;
-use content_rules::parse_delete_object;
+use content_rules::{DeletionRequest, parse_request};
 use policy_machine::Rule;
 
 /// Reads P1, P2 and the data field of a DELETE.
@@ -17,7 +17,7 @@ pub(crate) fn parse_delete(p1: u8, p2: u8, body: &[u8]) -> Result<Request<'_>, R
             version,
             identifier,
         }),
-        Err(_) => match parse_delete_object(p1, p2, body) {
+        Err(_) => match parse_request::<DeletionRequest>(p1, p2, body) {
             Ok(request) => Ok(Request::DeleteObject(request)),
             Err(rule) => Err(rule),
         },

@@ -4,14 +4,10 @@ use Rattle.std.specs.Prelude.{MatchOption}
 use Rattle.card_types.proofs.Domains.{domain_aid_is}
 use Rattle.card_types.proofs.EntryNames.{entry_in_slot}
 use Rattle.card_types.specs.Registry as registry
-use Rattle.card_types.specs.Represents.{entry_of}
+use Rattle.policy_slots.specs.Prelude.{ActsIn, Admitted, ManagementFails, acting, entry_of, is_card_locked}
 use Rattle.card_types.specs.declared.factory.TheConstants.{ISSUER}
 use Rattle.card_types.specs.declared.tables.Tables.{Tables}
-use Rattle.policy_machine.specs.Admission.{Admitted}
-use Rattle.policy_machine.specs.Management.{ManagementFails, acting}
-use Rattle.policy_machine.specs.Select.{is_card_locked}
 use Rattle.policy_machine.specs.declared.management.RuleM.TheVariants.{M1, M2, M3}
-use Rattle.policy_slots.specs.StateShown.{ActsIn}
 
 module _ (page : ℕ → List ℕ) (tables : Tables) (domain : ℕ) (admitted : Admitted) (acts : ActsIn page tables domain admitted) where
   pub acting_aid : acting admitted ≡ acts.entry.aid

@@ -5,22 +5,14 @@ use Rattle.std.specs.Option.{option_map}
 use Rattle.card_types.proofs.EntryNames.{entry_in_slot, one_entry_slot}
 use Rattle.card_types.proofs.Domains.{domain_aid_is}
 use Rattle.card_types.proofs.FoundNames.{found_file_named}
-use Rattle.card_types.specs.Found.{aid_of}
-use Rattle.card_types.specs.Privileges.{bits_of, security_domain}
+use Rattle.policy_slots.specs.Prelude.{Above, IsAboveIn, IsAtOrAbove, IsDomainNamed, IsFileInCharge, IsInCharge, Represents, Well, aid_of, bits_of, domain_aid, domain_of, domain_of_thing, domain_slot, entry_domain, entry_has, entry_named, entry_of, file_domain, file_of, held, is_domain, is_privileged, security_domain}
 use Rattle.card_types.specs.Registry as registry
-use Rattle.card_types.specs.Registry.{domain_of, entry_named, is_domain}
-use Rattle.card_types.specs.Represents.{Represents, domain_aid, domain_slot, entry_of, file_of, held}
-use Rattle.card_types.specs.Well.{IsDomainNamed, Well}
 use Rattle.card_types.specs.declared.found.Found.TheVariants as found
 use Rattle.card_types.specs.declared.privileges.Privileges.{Privileges}
 use Rattle.card_types.specs.declared.tables.Entry.{Entry}
 use Rattle.card_types.specs.declared.tables.LoadFile.{LoadFile}
 use Rattle.card_types.specs.declared.tables.Tables.{Tables}
 use Rattle.domain_tree.proofs.AboveNamed.{slot_above}
-use Rattle.domain_tree.specs.Above.{Above, IsAboveIn}
-use Rattle.domain_tree.specs.Holders.{entry_has}
-use Rattle.policy_machine.specs.Charge.{IsAtOrAbove, IsFileInCharge, IsInCharge, is_privileged}
-use Rattle.policy_machine.specs.Extradition.{domain_of_thing, entry_domain, file_domain}
 use Rattle.policy_machine.proofs.FileApart.{file_apart}
 use Rattle.policy_slots.proofs.FileCharge.{entry_no_file}
 use Rattle.policy_slots.proofs.NearestHolder.{privilege_named}

@@ -5,21 +5,12 @@ use Rattle.card_types.proofs.Domains.{file_domain_is_used, same_domain}
 use Rattle.card_types.proofs.FoundNames.{found_entry_named}
 use Rattle.card_types.proofs.LeastOfList.{found_fits}
 use Rattle.card_types.proofs.SameAid.{same_aid_decides}
-use Rattle.card_types.specs.Aid.{same_aid}
-use Rattle.card_types.specs.Found.{aid_of}
+use Rattle.policy_slots.specs.Prelude.{Above, ActsIn, Admitted, IsFileInCharge, IsWellFile, Represents, Well, acting, aid_of, domain_aid, domain_slot, entry_named, file_named, file_of, held, same_aid}
 use Rattle.card_types.specs.Registry as registry
-use Rattle.card_types.specs.Registry.{entry_named, file_named}
-use Rattle.card_types.specs.Represents.{Represents, domain_aid, domain_slot, file_of, held}
-use Rattle.card_types.specs.Well.{IsWellFile, Well}
 use Rattle.card_types.specs.declared.found.Found.TheVariants as found
 use Rattle.card_types.specs.declared.tables.LoadFile.{LoadFile}
 use Rattle.card_types.specs.declared.tables.Tables.{Tables}
 use Rattle.domain_tree.proofs.AboveNamed.{above_in_slots, above_named}
-use Rattle.domain_tree.specs.Above.{Above}
-use Rattle.policy_machine.specs.Admission.{Admitted}
-use Rattle.policy_machine.specs.Charge.{IsFileInCharge}
-use Rattle.policy_machine.specs.Management.{acting}
-use Rattle.policy_slots.specs.StateShown.{ActsIn}
 
 -- an entry's AID is that of no Executable Load File
 pub apart_from_entry : (said : registry.Registry) → Well said → (aid : List ℕ) (entry : registry.Entry) → entry_named said aid ≡ Some entry → file_named said aid ≡ None

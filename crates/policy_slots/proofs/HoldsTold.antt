@@ -2,18 +2,10 @@
 use Rattle.std.proofs.Common.{◌≡◌, ◌↔◌, ℕ, Bool, true, false, List, ap, sym, ◌∙◌}
 use Rattle.std.specs.Prelude.{IsTrue, not}
 use Rattle.std.proofs.lemmas.Bool.{false_from_ne_true, not-true, not_from_false}
-use Rattle.card_types.specs.Privileges.{bits_of}
-use Rattle.card_types.specs.Registry.{entry_named}
-use Rattle.card_types.specs.Represents.{held}
+use Rattle.policy_slots.specs.Prelude.{ActsIn, Admitted, Holds, acting, bits_of, entry_has, entry_named, held, is_privileged}
 use Rattle.card_types.specs.declared.privileges.Privileges.{Privileges}
 use Rattle.card_types.specs.declared.tables.Tables.{Tables}
-use Rattle.domain_tree.specs.Holders.{entry_has}
-use Rattle.policy_machine.specs.Admission.{Admitted}
-use Rattle.policy_machine.specs.Charge.{is_privileged}
-use Rattle.policy_machine.specs.Delegation.{Holds}
-use Rattle.policy_machine.specs.Management.{acting}
 use Rattle.policy_slots.proofs.NearestHolder.{privilege_named}
-use Rattle.policy_slots.specs.StateShown.{ActsIn}
 
 -- what a negated test tells
 pub not_told : {P : Type 0} (is : Bool) → IsTrue is ↔ P → IsTrue (not is) ↔ (P → ⊥)

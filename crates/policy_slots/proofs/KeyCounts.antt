@@ -5,16 +5,12 @@ use Rattle.std.proofs.lemmas.List.{length-map}
 use Rattle.std.proofs.lemmas.List.Sorted.{length_permutation}
 use Rattle.card_types.proofs.Members.{filtered}
 use Rattle.card_types.proofs.Shows.{held_from_used}
-use Rattle.card_types.specs.Aid.{same_aid}
+use Rattle.policy_slots.specs.Prelude.{Represents, Well, domain_aid, held, is_of, key_of, keys_but, same_aid, staying, used}
 use Rattle.card_types.specs.Registry as registry
-use Rattle.card_types.specs.Represents.{Represents, domain_aid, key_of, used, held}
-use Rattle.card_types.specs.Well.{Well}
 use Rattle.card_types.specs.declared.tables.Entry.{Entry}
 use Rattle.card_types.specs.declared.tables.KeyRec.{KeyRec}
 use Rattle.card_types.specs.declared.tables.Tables.{Tables}
 use Rattle.key_rules.specs.PutFails as slots
-use Rattle.key_rules.specs.Staying.{is_of, staying}
-use Rattle.policy_machine.specs.KeySets.{keys_but}
 use Rattle.policy_machine.proofs.Filtered.{as_many_pass, map_kept}
 use Rattle.policy_slots.proofs.KeysByName.{keys_staying}
 use Rattle.policy_slots.proofs.OwnKeys.{own_is}

@@ -8,16 +8,12 @@ use Rattle.std.proofs.lemmas.List.Elements.{All-contains}
 use Rattle.card_types.proofs.KeyNames.{keys_shown}
 use Rattle.card_types.proofs.Members.{filtered}
 use Rattle.card_types.proofs.Shows.{held_from_used, used_from_held}
-use Rattle.card_types.specs.Aid.{same_aid}
+use Rattle.policy_slots.specs.Prelude.{IsKeyName, IsWellKey, Represents, Well, counter_of, counters_but, domain_aid, has_key_version, held, is_counter_numbered, is_key_numbered, is_of, keeps_counter, key_of, keys_but, same_aid, staying, used}
 use Rattle.card_types.specs.Registry as registry
-use Rattle.card_types.specs.Represents.{Represents, counter_of, domain_aid, keeps_counter, key_of, used, held}
-use Rattle.card_types.specs.Well.{IsKeyName, IsWellKey, Well}
 use Rattle.card_types.specs.declared.tables.Entry.{Entry}
 use Rattle.card_types.specs.declared.tables.KeyRec.{KeyRec}
 use Rattle.card_types.specs.declared.tables.Tables.{Tables}
 use Rattle.key_rules.specs.PutFails as slots
-use Rattle.key_rules.specs.Staying.{is_of, staying}
-use Rattle.policy_machine.specs.KeySets.{counters_but, has_key_version, is_counter_numbered, is_key_numbered, keys_but}
 use Rattle.policy_machine.proofs.Filtered.{any_there, filter_same, filters_swap, map_kept, there_any}
 use Rattle.policy_slots.proofs.OwnKeys.{own_is}
 

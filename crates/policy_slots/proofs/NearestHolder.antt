@@ -7,23 +7,14 @@ use Rattle.card_types.proofs.Domains.{domain_aid_is}
 use Rattle.card_types.proofs.EntryNames.{entry_in_slot}
 use Rattle.card_types.proofs.SetMembers.{key_found}
 use Rattle.card_types.proofs.SetNames.{has_from_held, has_key_named, slot_of_key}
-use Rattle.card_types.specs.KeySets.{HasKey, IsKeyOf, is_key}
-use Rattle.card_types.specs.Privileges.{bits_of}
+use Rattle.policy_slots.specs.Prelude.{HasKey, IsFirstAbove, IsKeyOf, IsNearestHolder, NoneAbove, Represents, Well, bits_of, domain_aid, domain_of, domain_slot, entry_has, entry_named, entry_of, has_with_key, has_with_key_in, held, holds_lone_key, is_key, is_privileged, key_named, key_of}
 use Rattle.card_types.specs.Registry as registry
-use Rattle.card_types.specs.Registry.{domain_of, entry_named, key_named}
-use Rattle.card_types.specs.Represents.{Represents, domain_aid, domain_slot, entry_of, key_of, held}
-use Rattle.card_types.specs.Well.{Well}
 use Rattle.card_types.specs.declared.privileges.Privileges.{Privileges}
 use Rattle.card_types.specs.declared.tables.Entry.{Entry}
 use Rattle.card_types.specs.declared.tables.KeyRec.{KeyRec}
 use Rattle.card_types.specs.declared.tables.Tables.{Tables}
 use Rattle.domain_tree.proofs.AboveNamed.{first_above_named, none_above_named}
-use Rattle.domain_tree.specs.Above.{IsFirstAbove, NoneAbove}
-use Rattle.domain_tree.specs.Holders.{entry_has}
-use Rattle.policy_machine.specs.Charge.{is_privileged}
-use Rattle.policy_machine.specs.Delegation.{IsNearestHolder, has_with_key}
 use Rattle.policy_slots.proofs.AnySlot.{passing_slot, slot_passes}
-use Rattle.policy_slots.specs.HoldersFound.{has_with_key_in, holds_lone_key}
 
 -- a key that the test finds
 key_tested : (owner version identifier : ℕ) (key : KeyRec) → is_key owner version identifier key ≡ true → IsKeyOf owner version identifier key

@@ -7,13 +7,10 @@ use Rattle.std.proofs.lemmas.Bool.{and_from, and_parts, eq-eqb, eqb-true}
 use Rattle.std.proofs.lemmas.List.Sorted.{list_any-IsPermutation}
 use Rattle.card_types.proofs.Domains.{object_owner_is_used, same_domain}
 use Rattle.card_types.specs.Registry as registry
-use Rattle.card_types.specs.Represents.{Represents, domain_aid, object_of, used, held}
-use Rattle.card_types.specs.Well.{Well}
+use Rattle.policy_slots.specs.Prelude.{Represents, Well, domain_aid, has_object_in, held, is_object_of, is_tagged_in, object_of, used}
 use Rattle.card_types.specs.declared.tables.Entry.{Entry}
 use Rattle.card_types.specs.declared.tables.Tables.{Tables}
 use Rattle.policy_machine.proofs.ObjectStored.{is_of_from, is_of_parts}
-use Rattle.policy_machine.specs.DataObjects.{is_object_of}
-use Rattle.policy_slots.specs.ObjectsHeld.{has_object_in, is_tagged_in}
 
 -- a test of slots that is false of a free one, and one of what they show
 any_shown : {T X : Type 0} (q : Option T → Bool) (view : T → X) (p : X → Bool) → q None ≡ false → (slots : List (Option T))

@@ -10,17 +10,11 @@ use Rattle.card_types.proofs.Domains.{key_owner_is_used, same_domain}
 use Rattle.card_types.proofs.FilterByFinds.{filter_by_finds}
 use Rattle.card_types.proofs.KeyNames.{key_order_total, least_counter, least_key, no_counter, no_key}
 use Rattle.card_types.proofs.SameAid.{aid_equal_itself, aid_same_itself, same_aid_decides}
-use Rattle.card_types.specs.Aid.{aid_order, same_aid}
-use Rattle.card_types.specs.Registry.{key_order}
-use Rattle.card_types.specs.Search.{IsLeast, NoneFits}
+use Rattle.policy_slots.specs.Prelude.{IsLeast, NoneFits, Represents, Well, aid_order, counter_of, domain_aid, follows, held, is_past, keeps_counter, keeps_counter_of, keeps_counter_with, key_of, key_order, lowest_counter, name_order, same_aid, version_order}
 use Rattle.card_types.specs.Registry as registry
-use Rattle.card_types.specs.Represents.{Represents, counter_of, domain_aid, keeps_counter, key_of, held}
-use Rattle.card_types.specs.Well.{Well}
 use Rattle.card_types.specs.declared.tables.Entry.{Entry}
 use Rattle.card_types.specs.declared.tables.KeyRec.{KeyRec}
 use Rattle.card_types.specs.declared.tables.Tables.{Tables}
-use Rattle.policy_machine.specs.KeySets.{lowest_counter}
-use Rattle.policy_slots.specs.KeyOrder.{follows, is_past, keeps_counter_of, keeps_counter_with, name_order, version_order}
 use Rattle.policy_slots.specs.declared.key_order.KeyName.{KeyName}
 
 and_true : (a b : Bool) → (a && b) ≡ true → (a ≡ true) × (b ≡ true)

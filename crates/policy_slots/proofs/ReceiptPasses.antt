@@ -1,19 +1,13 @@
 -- When the rule on the receipt passes, by the slot of the receipter.
 use Rattle.std.proofs.Common.{◌≡◌, ◌≢◌, List, Option, None, Some, ℕ, refl, ap, subst, ◌∙◌}
 use Rattle.std.specs.Prelude.{MatchOption}
-use Rattle.card_types.specs.Registry.{Entry, entry_named}
-use Rattle.card_types.specs.Represents.{domain_aid, key_of, held}
+use Rattle.policy_slots.specs.Prelude.{ActsIn, Admitted, Entry, FindsReceipter, ReceiptFails, acting, domain_aid, entry_named, held, key_of}
 use Rattle.card_types.specs.declared.limits.TheConstants.{RECEIPT_LIMIT}
 use Rattle.card_types.specs.declared.tables.Entry.{Entry as Slot}
 use Rattle.card_types.specs.declared.tables.Tables.{Tables}
-use Rattle.policy_machine.specs.Admission.{Admitted}
-use Rattle.policy_machine.specs.Delegation.{ReceiptFails}
-use Rattle.policy_machine.specs.Management.{acting}
 use Rattle.policy_machine.specs.declared.delegation.RuleRC.TheVariants.{RC1}
 use Rattle.policy_machine.proofs.Approved.{one_holder}
 use Rattle.policy_slots.proofs.NearestHolder.{slot_named}
-use Rattle.policy_slots.specs.StateShown.{ActsIn}
-use Rattle.policy_slots.specs.HoldersFound.{FindsReceipter}
 
 -- a receipter that may make another receipt, or none, is no reason to refuse
 pub receipt_passes : (page : ℕ → List ℕ) (tables : Tables) (domain : ℕ) (admitted : Admitted) → ActsIn page tables domain admitted → (found : Option ℕ)

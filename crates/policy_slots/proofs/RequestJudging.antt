@@ -5,11 +5,7 @@ use Rattle.std.specs.Prelude.{map}
 use Rattle.policy_machine.proofs.FirstJoined.{first_behind, first_within}
 use Rattle.policy_machine.proofs.FirstLike.{first_like, first_of_group, none_first}
 use Rattle.policy_machine.proofs.ManagedJudging.{two_pass}
-use Rattle.policy_machine.specs.Admission.{Admitted}
-use Rattle.policy_machine.specs.Delegation.{Approval, ReceiptFails, TokenFails, token_rules}
-use Rattle.policy_machine.specs.Refusal.{IsFirst}
-use Rattle.policy_machine.specs.ManagedForm.{AskedFails, JudgedForm, OfEach}
-use Rattle.policy_machine.specs.Management.{ManagementFails}
+use Rattle.policy_slots.specs.Prelude.{Admitted, Approval, AskedFails, IsBroughtFor, IsFirst, IsTokenForm, JudgedForm, ManagementFails, OfEach, ReceiptFails, TokenFails, approval_of, receipt_rules, token_rules}
 use Rattle.policy_machine.specs.declared.delegation.RuleRC.{RuleRC}
 use Rattle.policy_machine.specs.declared.delegation.RuleRC.TheVariants.{RC1}
 use Rattle.policy_machine.specs.declared.delegation.RuleTK.{RuleTK}
@@ -17,8 +13,6 @@ use Rattle.policy_machine.specs.declared.management.RuleM.{RuleM}
 use Rattle.policy_machine.specs.declared.management.RuleM.TheVariants.{M1, M2}
 use Rattle.policy_machine.specs.declared.rule.Rule.{Rule}
 use Rattle.policy_machine.specs.declared.rule.Rule.TheVariants.{RC, TK}
-use Rattle.policy_slots.specs.HoldersFound.{approval_of}
-use Rattle.policy_slots.specs.RequestJudged.{IsBroughtFor, IsTokenForm, receipt_rules}
 use Rattle.policy_slots.specs.declared.delegation.Signed.{Signed}
 
 module _ (form : JudgedForm) (receipted : Bool) (lawful : IsTokenForm form receipted) (admitted : Admitted) where

@@ -2,14 +2,10 @@
 use Rattle.std.proofs.Common.{◌≡◌, ℕ, ◌<◌, List, Option, None, Some, sym, ap, subst, ◌∙◌}
 use Rattle.std.specs.Prelude.{slice_index_or}
 use Rattle.card_types.proofs.Domains.{domain_aid_is}
-use Rattle.card_types.specs.Represents.{domain_aid, held}
+use Rattle.policy_slots.specs.Prelude.{ActsIn, Admitted, Channel, IsSelectedIn, IsSound, RepresentsState, State, channel_at, domain_aid, held, selected_of, selected_on}
 use Rattle.card_types.specs.declared.tables.Entry.{Entry}
 use Rattle.card_types.specs.declared.tables.Tables.{Tables}
-use Rattle.policy_machine.specs.Admission.{Admitted}
-use Rattle.policy_machine.specs.Sound.{IsSound}
-use Rattle.policy_machine.specs.State.{State, Channel, channel_at, selected_of, selected_on}
 use Rattle.policy_machine.specs.declared.channels.TheConstants.{CHANNELS}
-use Rattle.policy_slots.specs.StateShown.{ActsIn, IsSelectedIn, RepresentsState}
 use Rattle.policy_slots.specs.declared.live.Live.{Live}
 
 by_slot : (entries : List (Option Entry)) (slot : ℕ) (channel : Option Channel) → IsSelectedIn entries (Some slot) channel

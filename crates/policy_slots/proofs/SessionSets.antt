@@ -10,21 +10,14 @@ use Rattle.card_types.proofs.KeyNames.{counters_shown}
 use Rattle.card_types.proofs.LeastOfList.{none_fits}
 use Rattle.card_types.proofs.Lines.{one_line}
 use Rattle.card_types.proofs.SameAid.{aid_same_itself}
-use Rattle.card_types.specs.Aid.{same_aid}
-use Rattle.card_types.specs.Hierarchy.{IsLine}
-use Rattle.card_types.specs.Search.{IsLeast, NoneFits}
+use Rattle.policy_slots.specs.Prelude.{IsFirstAbove, IsLeast, IsLine, NoneAbove, NoneFits, OwnsSets, Represents, UsesSet, Well, counter_of, domain_aid, domain_slot, has_set, has_set_in, held, holds_counter_of, keeps_counter, keeps_counter_of, keeps_counter_with, lowest_counter, same_aid, set_counter, version_order}
 use Rattle.card_types.specs.Registry as registry
-use Rattle.card_types.specs.Represents.{Represents, counter_of, domain_aid, domain_slot, keeps_counter, held}
-use Rattle.card_types.specs.Well.{Well}
 use Rattle.card_types.specs.declared.tables.Entry.{Entry}
 use Rattle.card_types.specs.declared.tables.KeyRec.{KeyRec}
 use Rattle.card_types.specs.declared.tables.Tables.{Tables}
 use Rattle.domain_tree.proofs.OnLine.{first_on_line, none_on_line}
-use Rattle.domain_tree.specs.Above.{IsFirstAbove, NoneAbove}
-use Rattle.policy_machine.specs.KeySets.{OwnsSets, UsesSet, has_set, lowest_counter, set_counter}
 use Rattle.policy_slots.proofs.AnySlot.{passing_slot, slot_passes}
 use Rattle.policy_slots.proofs.OwnKeys.{lowest_named, lowest_unnamed, numbered_named, numbered_unnamed}
-use Rattle.policy_slots.specs.KeyOrder.{has_set_in, holds_counter_of, keeps_counter_of, keeps_counter_with, version_order}
 
 module _ (owner : ℕ) where
   pub none_held : (keys : List (Option KeyRec)) → has_set_in keys owner ≡ false → NoneFits (keeps_counter_of owner) keys

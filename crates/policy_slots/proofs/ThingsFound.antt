@@ -5,20 +5,13 @@ use Rattle.std.specs.Option.{option_map}
 use Rattle.card_types.proofs.Domains.{domain_aid_is}
 use Rattle.card_types.proofs.FoundNames.{found_entry_named}
 use Rattle.card_types.proofs.Next.{held_from_name}
-use Rattle.card_types.specs.Found.{aid_of}
+use Rattle.policy_slots.specs.Prelude.{Above, ActsIn, Admitted, IsAboveIn, Represents, Well, acting, aid_of, domain_aid, domain_slot, entry_named, entry_of, held}
 use Rattle.card_types.specs.Registry as registry
-use Rattle.card_types.specs.Registry.{entry_named}
-use Rattle.card_types.specs.Represents.{Represents, domain_aid, domain_slot, entry_of, held}
-use Rattle.card_types.specs.Well.{Well}
 use Rattle.card_types.specs.declared.found.Found.TheVariants as found
 use Rattle.card_types.specs.declared.tables.Entry.{Entry}
 use Rattle.card_types.specs.declared.tables.Tables.{Tables}
 use Rattle.domain_tree.proofs.AboveNamed.{above_in_slots, above_named}
-use Rattle.domain_tree.specs.Above.{Above, IsAboveIn}
-use Rattle.policy_machine.specs.Admission.{Admitted}
-use Rattle.policy_machine.specs.Management.{acting}
 use Rattle.policy_slots.proofs.ActingDomain.{acting_aid}
-use Rattle.policy_slots.specs.StateShown.{ActsIn}
 
 -- the entry with this AID is in the slot
 pub record IsEntryAt (tables : Tables) (said : registry.Registry) (slot : ℕ) (aid : List ℕ) : Type 0 where

@@ -2,8 +2,7 @@ use Rattle.std.proofs.Common.{[], ◌∷◌}
 use Rattle.std.proofs.lemmas.Bool.{iff_false}
 use Rattle.policy_machine.specs.declared.card_status.RuleSC.TheVariants.{SC1, SC2}
 use Rattle.policy_machine.specs.declared.rule.Rule.TheVariants.{SC}
-use Rattle.policy_machine.specs.CardStatus.{managed_card_status}
-use Rattle.policy_machine.specs.ManagedForm.{command_form}
+use Rattle.policy_rules.specs.Prelude.{command_form, managed_card_status}
 use Rattle.policy_rules.proofs.CardStatusJudging.{barred_first, codeless_first, of_card, step_passes, stepless_first}
 use Rattle.policy_slots.proofs.ManagementFirst.{setting_handed}
 use Rattle.policy_rules.proofs.card_status.judge_card_status.Goals as goal

@@ -1,10 +1,9 @@
 use Rattle.std.proofs.Common.{◌≡◌, List, Option, Some, ap, sym, subst, ◌∙◌}
 use Rattle.std.specs.List.{list_any}
 use Rattle.std.proofs.lemmas.Bool.{false_from_ne_true, not-true, not_from_false}
-use Rattle.card_types.specs.Represents.{domain_slot}
+use Rattle.policy_rules.specs.Prelude.{domain_slot, holds_counter_but}
 use Rattle.card_types.specs.declared.tables.Entry.{Entry}
 use Rattle.policy_rules.proofs.DeleteKeyLastSet.{last_set, root_slot, set_left}
-use Rattle.policy_slots.specs.KeyOrder.{holds_counter_but}
 use Rattle.policy_rules.proofs.delete_key.is_last_set.Goals as goal
 
 pub returns-then-is_root : goal.returns-then-is_root

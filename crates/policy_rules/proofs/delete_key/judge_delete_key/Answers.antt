@@ -1,10 +1,9 @@
 use Rattle.std.proofs.Common.{[], ◌∷◌, refl, ◌∙◌, inl, inr}
 use Rattle.std.proofs.lemmas.Bool.{iff_false}
-use Rattle.policy_machine.specs.DeleteKey.{managed_delete_key}
+use Rattle.policy_rules.specs.Prelude.{command_form, managed_delete_key}
 use Rattle.policy_machine.specs.declared.delete_key.RuleDK.TheVariants.{DK1, DK2}
 use Rattle.policy_machine.specs.declared.rule.Rule.TheVariants.{DK}
 use Rattle.policy_machine.proofs.Judging.{err_judged}
-use Rattle.policy_machine.specs.ManagedForm.{command_form}
 use Rattle.policy_rules.proofs.DeleteKeyJudging.{acting_has_version, known_passes, refused_first, none_first}
 use Rattle.policy_slots.proofs.ManagementFirst.{management_handed}
 use Rattle.policy_rules.proofs.delete_key.judge_delete_key.Goals as goal

@@ -1,15 +1,10 @@
 use Rattle.std.proofs.Common.{◌≡◌, ◌≢◌, ℕ, List, Option, None, Some, rules, subst, sym}
 use Rattle.std.specs.Prelude.{MatchOption}
 use Rattle.std.proofs.lemmas.Bool.{iff_false}
-use Rattle.card_types.specs.Represents.{held}
+use Rattle.policy_rules.specs.Prelude.{ActsIn, Admitted, IsEntryStatusOf, IsSlotStep, OwnFirst, held, managed_entry_status}
 use Rattle.card_types.specs.declared.tables.Entry.{Entry}
 use Rattle.policy_rules.proofs.EntryStatusJudging.{first_1, first_2, first_3, first_4, issuer_fails, issuer_passes, none_first, one_change, step_other, stepless, steps, tree_change}
 use Rattle.card_types.specs.declared.life.LifeMark.{LifeMark}
-use Rattle.policy_machine.specs.Admission.{Admitted}
-use Rattle.policy_machine.specs.EntryStatus.{managed_entry_status}
-use Rattle.policy_machine.specs.ManagedForm.{OwnFirst}
-use Rattle.policy_rules.specs.SetStatusRequests.{IsEntryStatusOf, IsSlotStep}
-use Rattle.policy_slots.specs.StateShown.{ActsIn}
 use Rattle.policy_rules.proofs.entry_status.judge_change.Goals as goal
 use Rattle.policy_rules.proofs.entry_status.judge_change.Goals.{After-step_of}
 

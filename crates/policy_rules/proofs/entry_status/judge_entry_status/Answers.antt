@@ -1,8 +1,7 @@
 use Rattle.std.proofs.Common.{None, Some}
 use Rattle.std.specs.Prelude.{map}
 use Rattle.policy_machine.specs.declared.rule.Rule.TheVariants.{SS}
-use Rattle.policy_machine.specs.EntryStatus.{managed_entry_status}
-use Rattle.policy_machine.specs.ManagedForm.{command_form}
+use Rattle.policy_rules.specs.Prelude.{command_form, managed_entry_status}
 use Rattle.policy_rules.proofs.EntryStatusJudging.{not_card, own_status_first}
 use Rattle.policy_slots.proofs.ManagementFirst.{setting_handed}
 use Rattle.policy_rules.proofs.entry_status.judge_entry_status.Goals as goal

@@ -3,9 +3,7 @@ use Rattle.std.specs.Prelude.{IsTrue}
 use Rattle.std.specs.Option.{option_map}
 use Rattle.card_types.specs.declared.found.Found.{Found}
 use Rattle.card_types.specs.declared.tables.Entry.{Entry}
-use Rattle.policy_machine.specs.GetStatus.{IsInTree, Thing}
-use Rattle.policy_machine.specs.Management.{acting}
-use Rattle.policy_rules.specs.GetStatusRequests.{IsThingAt}
+use Rattle.policy_rules.specs.Prelude.{IsInTree, IsThingAt, Thing, acting}
 use Rattle.policy_slots.proofs.ThingsFound.{acting_named}
 use Rattle.policy_rules.proofs.get_status.is_in_tree.Goals as goal
 

@@ -1,7 +1,6 @@
 use Rattle.std.proofs.Common.{Some, subst, sym, ◌∙◌}
 use Rattle.std.specs.Prelude.{option_copied}
-use Rattle.policy_machine.specs.Refusal.{IsFirst}
-use Rattle.policy_machine.specs.GetStatus.{GetStatusFails, get_status_rules}
+use Rattle.policy_rules.specs.Prelude.{GetStatusFails, IsFirst, get_status_rules}
 use Rattle.policy_machine.specs.declared.rule.Rule.TheVariants.{GS}
 use Rattle.policy_rules.proofs.GetStatusJudging.{locked_first, none_first, nothing_first, nothing_shown, placeless_first, something_shown}
 use Rattle.policy_slots.proofs.ActingDomain.{locked_fails, unlocked_passes}

@@ -1,10 +1,8 @@
 use Rattle.std.proofs.Common.{◌≡◌, ℕ, ◌+◌, List, Option, None, Some, subst, sym, ◌∙◌, arith}
 use Rattle.std.specs.Prelude.{IfSome, option_copied}
-use Rattle.card_types.specs.Found.{aid_of}
+use Rattle.policy_rules.specs.Prelude.{Admitted, IsListedAt, aid_of}
 use Rattle.card_types.specs.declared.found.Found.{Found}
 use Rattle.card_types.specs.declared.limits.TheConstants.{ENTRIES}
-use Rattle.policy_machine.specs.Admission.{Admitted}
-use Rattle.policy_rules.specs.GetStatusRequests.{IsListedAt}
 use Rattle.policy_rules.proofs.GetStatusListed.{IsLeastBefore, lower_named, next_from_least, none_from_least, none_more, one_aid, one_more}
 use Rattle.policy_rules.proofs.get_status.next_shown.Goals.{in-Some, in_default}
 use Rattle.policy_rules.proofs.get_status.next_shown.Goals as goal

@@ -1,10 +1,7 @@
 use Rattle.std.proofs.Common.{◌≡◌, ℕ, List, Some}
 use Rattle.std.specs.Prelude.{IfSome, option_copied}
-use Rattle.card_types.specs.Found.{aid_of}
-use Rattle.policy_machine.specs.Admission.{Admitted}
+use Rattle.policy_rules.specs.Prelude.{ActsIn, Admitted, IsListedAt, aid_of}
 use Rattle.policy_rules.proofs.GetStatusListed.{IsLeastBefore}
-use Rattle.policy_rules.specs.GetStatusRequests.{IsListedAt}
-use Rattle.policy_slots.specs.StateShown.{ActsIn}
 use Rattle.policy_rules.proofs.get_status.next_shown.Given as goal
 
 abbrev pub invariant-loop-slot : goal.invariant-loop-slot

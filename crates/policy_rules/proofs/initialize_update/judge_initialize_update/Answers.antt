@@ -1,6 +1,5 @@
 use Rattle.std.proofs.Common.{subst, sym, ◌∙◌}
-use Rattle.card_types.specs.KeySets.{AreKeysOf}
-use Rattle.card_types.specs.Represents.{domain_aid}
+use Rattle.policy_rules.specs.Prelude.{AreKeysOf, domain_aid}
 use Rattle.card_types.specs.declared.tables.KeyRec.{KeyRec}
 use Rattle.policy_rules.proofs.InitializeUpdateJudging.{has_next, locked_first, none_first, shut_first, spent_first, unset_first}
 use Rattle.policy_slots.proofs.KeysByName.{least_in_slot}

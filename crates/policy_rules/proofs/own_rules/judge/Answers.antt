@@ -3,24 +3,7 @@ use Rattle.std.specs.Prelude.{option_copied, slice_index_or}
 use Rattle.std.specs.Option.{option_map}
 use Rattle.std.proofs.lemmas.List.{get_or_default}
 use Rattle.policy_machine.specs.declared.channels.TheConstants.{CHANNELS}
-use Rattle.policy_machine.specs.Commands.{Judges}
-use Rattle.policy_machine.specs.CardStatus.{managed_card_status}
-use Rattle.policy_machine.specs.DeleteObject.{managed_delete_object}
-use Rattle.policy_machine.specs.EntryStatus.{managed_entry_status}
-use Rattle.policy_machine.specs.Extradition.{managed_extradition}
-use Rattle.policy_machine.specs.Refusal.{IsFirst}
-use Rattle.policy_machine.specs.InstallApplication.{managed_install}
-use Rattle.policy_machine.specs.Load.{LoadFails, front_rules}
-use Rattle.policy_machine.specs.MakeSelectable.{managed_selectable}
-use Rattle.policy_machine.specs.GetStatus.{get_status}
-use Rattle.policy_machine.specs.Admission.{Admitted}
-use Rattle.policy_machine.specs.Sound.{IsSound}
-use Rattle.content_rules.specs.LoadFound.{IsForLoad}
-use Rattle.policy_rules.specs.SetStatusRequests.{IsCardStatusOf}
-use Rattle.policy_slots.specs.StateShown.{ActsIn, place_of, RepresentsState}
-use Rattle.card_types.specs.Represents.{Represents}
-use Rattle.card_types.specs.Well.{Well}
-use Rattle.policy_machine.specs.State.{channel_at, place_in, selected_on}
+use Rattle.policy_rules.specs.Prelude.{ActsIn, Admitted, FailsFirst, IsCardStatusOf, IsFirst, IsForLoad, IsPlaceBefore, IsSound, Judges, LoadFails, Represents, RepresentsState, Well, channel_at, command_form, front_rules, get_status, install_load, managed_card_status, managed_delete_object, managed_entry_status, managed_extradition, managed_install, managed_put_key, managed_selectable, place_in, place_of, selected_on}
 use Rattle.policy_machine.proofs.GetDataLaws.{get_passes, get_refused}
 use Rattle.policy_machine.proofs.InitializeUpdateLaws.{offer_judged}
 use Rattle.policy_machine.proofs.Judging.{by_err, judged_by}
@@ -28,12 +11,7 @@ use Rattle.policy_machine.proofs.ManageChannelLaws.{open_passes, open_refused}
 use Rattle.policy_machine.proofs.InstallLoadLaws.{load_install_judged}
 use Rattle.policy_machine.proofs.PutKeyLaws.{put_judged}
 use Rattle.policy_machine.proofs.SelectLaws.{select_passes, select_refused}
-use Rattle.policy_machine.specs.CommandForm.{FailsFirst}
-use Rattle.policy_machine.specs.InstallLoad.{install_load}
-use Rattle.policy_machine.specs.PutKey.{managed_put_key}
-use Rattle.policy_machine.specs.ManagedForm.{command_form}
 use Rattle.policy_rules.proofs.DataAsked.{asked_for, asks, has_data}
-use Rattle.policy_rules.specs.GetStatusRequests.{IsPlaceBefore}
 use Rattle.policy_slots.proofs.Selected.{selected_acts, selected_entry}
 use Rattle.policy_rules.proofs.own_rules.judge.Goals as goal
 use Rattle.policy_rules.proofs.own_rules.judge.Goals.{After-unwrap-domain}

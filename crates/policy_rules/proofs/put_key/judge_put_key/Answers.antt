@@ -1,11 +1,7 @@
 use Rattle.std.proofs.Common.{length}
-use Rattle.key_rules.specs.PutFails.{PutFails}
+use Rattle.policy_rules.specs.Prelude.{PutFails, command_form, key_rules, managed_put_key, sent_keys, version_rules}
 use Rattle.policy_machine.proofs.FirstJoined.{passed_behind, refused_behind, refused_within}
-use Rattle.policy_machine.specs.PutKeyRules.{key_rules, version_rules}
-use Rattle.policy_machine.specs.PutKey.{managed_put_key}
-use Rattle.policy_machine.specs.ManagedForm.{command_form}
 use Rattle.policy_rules.proofs.PutKeyJudging.{roomy_ok}
-use Rattle.policy_rules.specs.Requests.{sent_keys}
 use Rattle.policy_rules.proofs.put_key.judge_put_key.Goals as goal
 
 pub returns-in_err-judge_put_versions-clause-refused : goal.returns-in_err-judge_put_versions-clause-refused

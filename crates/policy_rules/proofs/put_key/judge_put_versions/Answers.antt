@@ -1,8 +1,7 @@
 use Rattle.std.proofs.Common.{[], ◌∷◌}
 use Rattle.policy_machine.specs.declared.put_key.RulePK.TheVariants.{PK1, PK2}
 use Rattle.policy_machine.specs.declared.rule.Rule.TheVariants.{PK}
-use Rattle.policy_machine.specs.PutKey.{managed_put_key}
-use Rattle.policy_machine.specs.ManagedForm.{command_form}
+use Rattle.policy_rules.specs.Prelude.{command_form, managed_put_key}
 use Rattle.policy_rules.proofs.PutKeyJudging.{taken_first, unknown_first, versions_pass}
 use Rattle.policy_slots.proofs.ManagementFirst.{management_handed}
 use Rattle.policy_rules.proofs.put_key.judge_put_versions.Goals as goal

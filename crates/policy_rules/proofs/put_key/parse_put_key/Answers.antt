@@ -1,6 +1,5 @@
 use Rattle.std.proofs.Common.{rules, refl}
-use Rattle.policy_machine.specs.PutKey.{HasKeyFields, PutKeyParameters}
-use Rattle.policy_rules.specs.Requests.{sent_keys}
+use Rattle.policy_rules.specs.Prelude.{HasKeyFields, PutKeyParameters, sent_keys}
 use Rattle.policy_rules.proofs.put_key.parse_put_key.Goals as goal
 
 pub returns-in-Some : goal.returns-in-Some

@@ -1,8 +1,7 @@
 use Rattle.std.proofs.Common.{ap, arith}
 use Rattle.policy_machine.proofs.StoreDataElements.{elements_behind, none_left, rest_shorter}
 use Rattle.policy_machine.proofs.NewTags.{counted_again, counted_new, counted_old}
-use Rattle.policy_machine.specs.DataObjects.{new_tags}
-use Rattle.policy_slots.specs.ObjectsHeld.{has_object_in}
+use Rattle.policy_rules.specs.Prelude.{has_object_in, new_tags}
 use Rattle.policy_rules.proofs.store_data.count_new.Goals as goal
 use Rattle.policy_rules.proofs.store_data.count_new.Goals.{else-not-has_object-via-then-not-has_object+else-not-has_tag, else-not-has_object-via-else-not-has_object}
 

@@ -1,7 +1,5 @@
 use Rattle.std.proofs.Common.{◌≡◌, ◌+◌, ◌≤◌, List, length}
-use Rattle.bertlv.specs.Spelling.{AreElements, Element}
-use Rattle.policy_machine.specs.DataObjects.{new_tags}
-use Rattle.policy_slots.specs.ObjectsHeld.{has_object_in}
+use Rattle.policy_rules.specs.Prelude.{AreElements, Element, has_object_in, new_tags}
 use Rattle.policy_rules.proofs.store_data.count_new.Given as goal
 
 abbrev pub invariant-loop-element : goal.invariant-loop-element

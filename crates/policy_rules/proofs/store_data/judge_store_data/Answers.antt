@@ -1,9 +1,8 @@
 use Rattle.std.proofs.Common.{[], ◌∷◌, None, Some, inl, refl, arith}
 use Rattle.policy_machine.proofs.Judging.{err_judged}
-use Rattle.policy_machine.specs.StoreData.{managed_store_data}
+use Rattle.policy_rules.specs.Prelude.{command_form, managed_store_data}
 use Rattle.policy_machine.specs.declared.rule.Rule.TheVariants.{SD}
 use Rattle.policy_machine.specs.declared.store_data.RuleSD.TheVariants.{SD1}
-use Rattle.policy_machine.specs.ManagedForm.{command_form}
 use Rattle.policy_rules.proofs.StoreDataJudging.{full_first, none_first, store_judged}
 use Rattle.policy_slots.proofs.ManagementFirst.{management_handed}
 use Rattle.policy_rules.proofs.store_data.judge_store_data.Goals as goal

@@ -1,8 +1,7 @@
 use Rattle.std.proofs.Common.{rules, ◌≡◌, Some, refl, sym, subst}
 use Rattle.std.specs.Prelude.{IsSome}
 use Rattle.card_types.proofs.Domains.{domain_is_used, file_domain_is_used}
-use Rattle.card_types.specs.Found.{aid_of}
-use Rattle.card_types.specs.Represents.{held}
+use Rattle.policy_slots.specs.Prelude.{aid_of, held}
 use Rattle.card_types.specs.declared.found.Found.{Found}
 use Rattle.policy_slots.proofs.ChargeNamed.{domain_of_entry, domain_of_file}
 use Rattle.policy_slots.proofs.charge.domain_of.Goals as goal

@@ -1,8 +1,7 @@
 use Rattle.std.proofs.Common.{◌≡◌, Some, subst}
-use Rattle.card_types.specs.Found.{aid_of}
+use Rattle.policy_slots.specs.Prelude.{acting, aid_of}
 use Rattle.card_types.specs.declared.found.Found.{Found}
 use Rattle.domain_tree.proofs.AboveNamed.{free_of_loops}
-use Rattle.policy_machine.specs.Management.{acting}
 use Rattle.policy_slots.proofs.ChargeNamed.{above_alike, entry_charge, file_charge}
 use Rattle.policy_slots.proofs.ThingsFound.{acting_named}
 use Rattle.policy_slots.proofs.charge.has_charge.Goals as goal

@@ -1,10 +1,8 @@
 use Rattle.std.proofs.Common.{rules, ◌≡◌, ◌↔◌, inl, inr, Some, subst, sym, ◌∙◌}
 use Rattle.std.specs.Prelude.{IsTrue}
 use Rattle.card_types.proofs.DomainLines.{line_in_slots}
-use Rattle.card_types.specs.Represents.{file_of, held}
+use Rattle.policy_slots.specs.Prelude.{IsFileInCharge, acting, file_of, held}
 use Rattle.card_types.specs.declared.tables.LoadFile.{LoadFile}
-use Rattle.policy_machine.specs.Charge.{IsFileInCharge}
-use Rattle.policy_machine.specs.Management.{acting}
 use Rattle.policy_machine.proofs.Lawful.{some_same}
 use Rattle.policy_slots.proofs.FileCharge.{by_slots, file_below}
 use Rattle.policy_slots.proofs.charge.is_in_charge.Goals as goal

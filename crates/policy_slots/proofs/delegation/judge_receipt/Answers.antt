@@ -6,15 +6,20 @@ use Rattle.card_types.specs.declared.limits.TheConstants.{RECEIPT_LIMIT}
 use Rattle.card_types.specs.declared.tables.Entry.{Entry}
 use Rattle.policy_slots.proofs.NearestHolder.{slot_named}
 use Rattle.policy_slots.proofs.delegation.judge_receipt.Goals as goal
+use Rattle.policy_slots.proofs.delegation.judge_receipt.Goals.{After-unwrap-entry}
+
+-- the confirmer's entry in its slot
+entry_held : (c : After-unwrap-entry) → held c.args.tables.now.entries.items c.in-Some.slot ≡ Some c.unwrap-entry.result.now
+entry_held c =
+    (let there : held c.deref.result.now c.in-Some.slot ≡ Some c.unwrap-entry.result.now = search rules in
+    rw c.deref.ensures.value at there)
 
 pub returns-then-entry-clause-refused : goal.returns-then-entry-clause-refused
 returns-then-entry-clause-refused c page admitted acts =
     let tables = c.args.tables.now in
     let slot = c.in-Some.slot in
-    let entry = c.unwrap-entry.result.now in
-    let there : held c.deref.result.now slot ≡ Some entry = search rules in
-    let at : held tables.entries.items slot ≡ Some entry = rw c.deref.ensures.value at there in
-    let named = slot_named page tables admitted.at.registry acts.says slot entry at in (
+    let at = entry_held (goal.at.returns-then-entry-clause-refused c).After-unwrap-entry in
+    let named = slot_named page tables admitted.at.registry acts.says slot c.unwrap-entry.result.now at in (
       domain_aid tables.entries.items slot,
       key_of tables.entries.items c.in-Some.field-0-1.now,
       c.in-Some.ensures.some page admitted acts,
@@ -23,11 +28,7 @@ returns-then-entry-clause-refused c page admitted acts =
 
 pub returns-clause-found : goal.returns-clause-found
 returns-clause-found c page admitted acts =
-    let tables = c.args.tables.now in
-    let slot = c.in-Some.slot in
-    let entry = c.unwrap-entry.result.now in
-    let there : held c.deref.result.now slot ≡ Some entry = search rules in
-    let at : held tables.entries.items slot ≡ Some entry = rw c.deref.ensures.value at there in
+    let at = entry_held (goal.at.returns-clause-found c).After-unwrap-entry in
     record {
       key = c.in-Some.field-0-1.now;
       is = c.in-Some.ensures.some page admitted acts;
@@ -36,11 +37,7 @@ returns-clause-found c page admitted acts =
 
 pub returns-clause-able : goal.returns-clause-able
 returns-clause-able c =
-    let tables = c.args.tables.now in
-    let slot = c.in-Some.slot in
-    let entry = c.unwrap-entry.result.now in
-    let there : held c.deref.result.now slot ≡ Some entry = search rules in
-    let at : held tables.entries.items slot ≡ Some entry = rw c.deref.ensures.value at there in
+    let at = entry_held (goal.at.returns-clause-able c).After-unwrap-entry in
     record {
       below = subst (λ (o : Option Entry). MatchOption o ⊥ (λ e. e.receipts ≢ RECEIPT_LIMIT)) (sym at) c.if-entry.false;
       key = c.in-Some.ensures.key;

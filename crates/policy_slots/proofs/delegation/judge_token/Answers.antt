@@ -1,7 +1,6 @@
 use Rattle.std.proofs.Common.{sym, ◌∙◌}
-use Rattle.card_types.specs.Represents.{domain_aid, key_of}
+use Rattle.policy_slots.specs.Prelude.{approval_of, domain_aid, key_of}
 use Rattle.policy_machine.proofs.Approved.{approved, unfitting, unverified}
-use Rattle.policy_slots.specs.HoldersFound.{approval_of}
 use Rattle.policy_slots.proofs.delegation.judge_token.Goals as goal
 
 pub returns-in_default-clause-refused : goal.returns-in_default-clause-refused

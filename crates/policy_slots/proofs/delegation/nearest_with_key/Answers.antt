@@ -2,14 +2,9 @@ use Rattle.std.proofs.Common.{rules, ◌≡◌, ℕ, List, Option, Some, sym, su
 use Rattle.std.specs.Prelude.{MatchOption}
 use Rattle.card_types.proofs.DomainLines.{line_in_slots}
 use Rattle.card_types.proofs.SetNames.{key_length_in_slot}
-use Rattle.card_types.specs.KeySets.{IsKeyOf}
-use Rattle.card_types.specs.Privileges.{bits_of}
-use Rattle.card_types.specs.Represents.{domain_aid, domain_slot, key_of, held}
+use Rattle.policy_slots.specs.Prelude.{IsFirstAbove, IsKeyOf, IsNearestHolder, NoHolder, NoneAbove, bits_of, domain_aid, domain_slot, has_with_key_in, held, key_of}
 use Rattle.card_types.specs.declared.tables.KeyRec.{KeyRec}
-use Rattle.domain_tree.specs.Above.{IsFirstAbove, NoneAbove}
-use Rattle.policy_machine.specs.Delegation.{IsNearestHolder, NoHolder}
 use Rattle.policy_slots.proofs.NearestHolder.{holder_named, lone_key, no_holder_named, some_found}
-use Rattle.policy_slots.specs.HoldersFound.{has_with_key_in}
 use Rattle.policy_slots.proofs.delegation.nearest_with_key.Goals as goal
 
 pub first_above-requires-clause-no_loops : goal.first_above-requires-clause-no_loops

@@ -1,9 +1,8 @@
 use Rattle.std.proofs.Common.{inr, inl, refl, subst, sym, ◌∙◌}
 use Rattle.std.proofs.lemmas.Bool.{iff_false}
-use Rattle.policy_machine.specs.Admission.{Admitted}
+use Rattle.policy_slots.specs.Prelude.{Admitted, IsBroughtFor}
 use Rattle.policy_slots.proofs.ReceiptPasses.{receipt_passes}
 use Rattle.policy_slots.proofs.RequestJudging.{by_receipt, by_token, receipted_so, undelegated, unreceipted}
-use Rattle.policy_slots.specs.RequestJudged.{IsBroughtFor}
 use Rattle.policy_slots.proofs.judged_request.judge_approval.Given.{Over}
 use Rattle.policy_slots.proofs.judged_request.judge_approval.Goals as goal
 use Rattle.policy_slots.proofs.judged_request.judge_approval.Goals.{After-approving-approval}

@@ -2,8 +2,7 @@ use Rattle.std.proofs.Common.{◌++◌, List, None, Some, subst, sym}
 use Rattle.std.specs.Prelude.{IfErr, map}
 use Rattle.policy_machine.proofs.FirstLike.{handed_on}
 use Rattle.policy_machine.proofs.ManagedJudging.{approval_decides, own_refuses}
-use Rattle.policy_machine.specs.Refusal.{IsFirst}
-use Rattle.policy_machine.specs.ManagedForm.{JudgedFails, JudgedFirst}
+use Rattle.policy_slots.specs.Prelude.{IsFirst, JudgedFails, JudgedFirst}
 use Rattle.policy_machine.specs.declared.management.RuleM.{RuleM}
 use Rattle.policy_machine.specs.declared.rule.Rule.{Rule}
 use Rattle.policy_machine.specs.declared.rule.Rule.TheVariants.{M}

@@ -1,8 +1,7 @@
 use Rattle.std.proofs.Common.{◌||◌, List, Bool, ap, sym, ◌∙◌}
 use Rattle.std.proofs.lemmas.Bool.{eq-eqb, ne_eqb}
-use Rattle.bertlv.specs.Spelling.{Element}
+use Rattle.policy_slots.specs.Prelude.{Element, has_tag_in}
 use Rattle.policy_machine.proofs.StoreDataElements.{elements_behind, none_left}
-use Rattle.policy_machine.specs.DataObjects.{has_tag_in}
 use Rattle.policy_slots.proofs.tags.has_tag.Goals as goal
 
 pub returns-then-element-tag : goal.returns-then-element-tag

@@ -1,6 +1,5 @@
 use Rattle.std.proofs.Common.{◌≡◌, List, length}
-use Rattle.bertlv.specs.Spelling.{AreElements, Element}
-use Rattle.policy_machine.specs.DataObjects.{has_tag_in}
+use Rattle.policy_slots.specs.Prelude.{AreElements, Element, has_tag_in}
 use Rattle.policy_slots.proofs.tags.has_tag.Given as goal
 
 abbrev pub invariant-loop-element : goal.invariant-loop-element

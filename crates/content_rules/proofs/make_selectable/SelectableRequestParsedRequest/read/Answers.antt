@@ -5,7 +5,7 @@ use Rattle.policy_machine.specs.InstallFields.{InstallData}
 use Rattle.policy_machine.proofs.LengthFields.{one_data}
 use Rattle.content_rules.proofs.PrivilegesGiven.{GivesPrivileges, gives_privileges, unreadable}
 use Rattle.content_rules.specs.FieldsRead.{given_of}
-use Rattle.content_rules.proofs.make_selectable.read_request.Goals as goal
+use Rattle.content_rules.proofs.make_selectable.SelectableRequestParsedRequest.read.Goals as goal
 
 pub returns-in_err-privileges-clause-none : goal.returns-in_err-privileges-clause-none
 returns-in_err-privileges-clause-none c =

@@ -2,7 +2,7 @@ use Rattle.std.proofs.Common.{◌-◌, length, refl, arith}
 use Rattle.std.specs.Prelude.{take}
 use Rattle.std.proofs.lemmas.List.{length-take-le}
 use Rattle.policy_machine.proofs.DeleteObjectAsking.{before_token, deletion_read, no_token, unread_deletion}
-use Rattle.content_rules.proofs.delete_object.read_request.Goals as goal
+use Rattle.content_rules.proofs.delete_object.DeletionRequestParsedRequest.read.Goals as goal
 
 pub returns-in_default-clause-none : goal.returns-in_default-clause-none
 returns-in_default-clause-none c = unread_deletion c.args.body.now c.in_default.ensures.only
@@ -24,7 +24,7 @@ returns-clause-some c =
       asked = record { aid = named.value.now; approval = record { before = take size body; token = token } };
       asks = deletion_read body named.tag named.value.now rest c.in-Ok.ensures.found (take size body) token front c.if-named-ne79.false
           c.in_ok-aid.ensures.length c.in_ok-token.ensures.some;
-      form = c.requires.form;
+      form = c.requires;
       aid = c.in_ok-aid.ensures.some;
       related = refl;
       parameters = c.over.ensures.parameters;

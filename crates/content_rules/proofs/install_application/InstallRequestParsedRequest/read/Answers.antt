@@ -6,7 +6,7 @@ use Rattle.policy_machine.specs.InstallApplication.{AreInstallParameters}
 use Rattle.policy_machine.specs.InstallFields.{InstallData}
 use Rattle.policy_machine.proofs.InstallApplicationAsking.{same_given}
 use Rattle.content_rules.specs.FieldsRead.{given_of}
-use Rattle.content_rules.proofs.install_application.read_request.Goals as goal
+use Rattle.content_rules.proofs.install_application.InstallRequestParsedRequest.read.Goals as goal
 
 pub returns-in_err-module-clause-none : goal.returns-in_err-module-clause-none
 returns-in_err-module-clause-none c =

@@ -1,10 +1,14 @@
 use Rattle.std.proofs.Common.{◌≡◌, ◌⊎◌, [], refl, subst, arith, ◌∙◌}
 use Rattle.card_types.specs.Aid.{IsAid}
 use Rattle.policy_machine.specs.InstallLoad.{LoadData}
-use Rattle.policy_machine.proofs.LengthFields.{one_load_data}
+use Rattle.policy_machine.proofs.LengthFields.{no_load_data, one_load_data}
 use Rattle.content_rules.proofs.InstallLoadJudging.{names_some}
-use Rattle.content_rules.specs.InstallLoadRequests.{load_data_of}
-use Rattle.content_rules.proofs.install_load.read_request.Goals as goal
+use Rattle.content_rules.specs.FieldsRead.{load_data_of}
+use Rattle.content_rules.proofs.install_load.LoadInstallRequestParsedRequest.read.Goals as goal
+
+pub returns-in_err-fields-clause-none : goal.returns-in_err-fields-clause-none
+returns-in_err-fields-clause-none c =
+    rw c.from_residual.ensures (λ given asks. no_load_data c.args.body.now c.in_err-fields.ensures.none given asks.fields)
 
 pub returns-in_err-file-clause-none : goal.returns-in_err-file-clause-none
 returns-in_err-file-clause-none c =
@@ -22,18 +26,18 @@ returns-in_err-domain-clause-none c =
 pub returns-clause-some : goal.returns-clause-some
 returns-clause-some c =
     let fields = c.in_ok-fields.fields in
-    let before = c.in_ok-fields.ensures.before in
+    let before = c.front.ensures.before _ c.in_ok-fields.ensures.before in
     record {
       given = load_data_of fields;
       asks = record {
         fields = c.in_ok-fields.ensures.some;
         file = c.in_ok-file.ensures.length;
-        domain = names_some c.in_ok-domain.domain fields.domain.now c.in_ok-domain.ensures.some;
+        domain = names_some c.in_ok-domain.domain fields.second.now c.in_ok-domain.ensures.some;
       };
       file = c.in_ok-file.ensures.some;
       domain = c.in_ok-domain.ensures.some;
       hash = refl;
       parameters = c.over.ensures.parameters;
       approval = c.over.ensures.approval ∙ (λ i. record { before = before i; token = fields.token.now });
-      short = omega (arith, c.over.ensures.short, c.in_ok-fields.ensures.short);
+      short = omega (arith, c.over.ensures.short, c.front.ensures.short);
     }

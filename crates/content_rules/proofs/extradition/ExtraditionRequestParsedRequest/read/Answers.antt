@@ -5,8 +5,8 @@ use Rattle.card_types.specs.Aid.{IsAid}
 use Rattle.policy_machine.specs.InstallFields.{InstallData}
 use Rattle.policy_machine.proofs.LengthFields.{one_data}
 use Rattle.content_rules.specs.FieldsRead.{given_of}
-use Rattle.content_rules.proofs.extradition.read_request.Goals as goal
-use Rattle.content_rules.proofs.extradition.read_request.Goals.{then-not-is_empty-via-then-not-is_empty, then-not-is_empty-via-else-not-is_empty+then-not-is_empty-2}
+use Rattle.content_rules.proofs.extradition.ExtraditionRequestParsedRequest.read.Goals as goal
+use Rattle.content_rules.proofs.extradition.ExtraditionRequestParsedRequest.read.Goals.{then-not-is_empty-via-then-not-is_empty, then-not-is_empty-via-else-not-is_empty+then-not-is_empty-2}
 
 pub returns-then-not-is_empty-clause-none : goal.returns-then-not-is_empty-clause-none
 returns-then-not-is_empty-clause-none c given asks =
