@@ -61,11 +61,9 @@ impl<K: BlockKey> HostSession<K> {
         if !self.is_right_mac(field, mac, status) {
             return Err(ReplyRefusal::Mac);
         }
-        let mut plain = [0; 256];
-        let Some(len) = self.plain_field(field, &mut plain) else {
+        let Some(()) = self.plain_field(field, out) else {
             return Err(ReplyRefusal::Padding);
         };
-        append(out, &plain[..len]);
         Ok(status)
     }
 
@@ -92,18 +90,27 @@ impl<K: BlockKey> HostSession<K> {
         mac == &right[..8]
     }
 
-    // Writes what the data field of the reply gives to the front of `plain`, and answers its length.
-    fn plain_field(&self, field: &[u8], plain: &mut [u8; 256]) -> Option<usize>
-        requires { length field.now ≤ 256 }
+    // Makes `out`, which is empty, what the data field of the reply gives, in place. It stays empty where there is no such field.
+    fn plain_field(&self, field: &[u8], out: &mut ArrayVec<u8, 256>) -> Option<()>
+        requires short { length field.now ≤ 256 }
+        requires empty { out.old.items ≡ [] }
         ensures some { (session : model.Session) → RepresentsSession self.now session
-            → IfSome result (λ n. (reply_field session (take n plain.new) ≡ field.now) × IsBytes (take n plain.new)) }
+            → IfSome result (λ _. (reply_field session out.new.items ≡ field.now) × IsBytes out.new.items) }
         ensures none { (session : model.Session) → RepresentsSession self.now session
             → IfNone result ((p : List ℕ) → IsBytes p → reply_field session p ≡ field.now → ⊥) }
-        ensures length { IfSome result (λ n. n ≤ length field.now) }
+        ensures empty { IfNone result (out.new.items ≡ []) }
     {
-        let len = field.len();
-        plain[..len].copy_from_slice(field);
-        self.decipher(&mut plain[..len])
+        append(out, field);
+        match self.decipher(out.as_mut_slice()) {
+            Some(len) => {
+                out.truncate(len);
+                Some(())
+            }
+            None => {
+                out.clear();
+                None
+            }
+        }
     }
 
     // Deciphers the data field of a reply in place: `field` is the data field at entry.

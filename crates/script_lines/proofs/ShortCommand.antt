@@ -1,11 +1,10 @@
 -- Commands of class 80, as words spell them.
 use Rattle.std.proofs.Common.{◌≡◌, ◌≤◌, ◌<◌, ℕ, List, [], ◌∷◌, ◌++◌, length, Option, Some, None, Ok, subst, ap, arith, length-append, slice_index}
-use Rattle.std.specs.Prelude.{All}
+use Rattle.std.specs.Prelude.{All, MatchOption}
 use Rattle.std.proofs.lemmas.List.Elements.{All-head, All-tail}
 use Rattle.hex.specs.Hex.{decode_of}
 use Rattle.hex.proofs.HexLemmas.{decode_of-same}
 use Rattle.apdu_core.specs.Apdu.{Apdu, Short, after_header}
-use Rattle.script_lines.specs.Words.{Reads}
 use Rattle.script_lines.specs.Send.{IsPlain, SpellsPlain}
 use Rattle.script_lines.specs.declared.plain.Plain.{Plain}
 
@@ -35,7 +34,9 @@ short_len c bytes h =
 pub class_first : (c : Apdu) (bytes : List ℕ) → Short c bytes → slice_index bytes 0 ≡ c.class
 class_first c bytes h = ap (λ l. slice_index l 0) h.spelling
 
-pub through : (word bytes : List ℕ) (r : Option Plain) → decode_of word ≡ Ok bytes → Reads (IsPlain bytes) r → Reads (SpellsPlain word) r
+pub through : {X : Type 0} (word bytes : List ℕ) (plain : Plain) (r : Option X) → decode_of word ≡ Ok bytes
+    → MatchOption r ((value : Plain) → IsPlain bytes value → ⊥) (λ _. IsPlain bytes plain)
+    → MatchOption r ((value : Plain) → SpellsPlain word value → ⊥) (λ _. SpellsPlain word plain)
 unfolding SpellsPlain
-through word bytes (Some c) decoded is = (bytes, decoded, is)
-through word bytes None decoded refused = λ value h. refused value (subst (λ b. IsPlain b value) (decode_of-same word h.0 bytes h.1 decoded) h.2)
+through word bytes plain (Some x) decoded is = (bytes, decoded, is)
+through word bytes plain None decoded refused = λ value h. refused value (subst (λ b. IsPlain b value) (decode_of-same word h.0 bytes h.1 decoded) h.2)

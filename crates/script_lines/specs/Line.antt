@@ -1,5 +1,5 @@
 -- What a line says.
-use Rattle.std.specs.Prelude.{◌≡◌, ◌⊎◌, ℕ, List, [], ◌∷◌, codes, All}
+use Rattle.std.specs.Prelude.{◌≡◌, ◌⊎◌, ℕ, List, [], ◌∷◌, Bool, codes, All, if◌then◌else◌}
 use Rattle.script_lines.specs.Control.{SaysControl}
 use Rattle.script_lines.specs.Exchange.{SaysExchange}
 use Rattle.script_lines.specs.Words.{words_of}
@@ -25,6 +25,14 @@ abbrev pub SaysSending : List (List ℕ) → ScriptLine → Type 0
 SaysSending words (Exchange e) = SaysExchange words e
 SaysSending words (Quiet e) = SaysQuietly words e
 SaysSending words _ = ⊥
+
+-- the same, by whether it is quiet
+abbrev pub sent_as : Bool → exchange.Exchange → ScriptLine
+sent_as quiet e = if quiet then Quiet e else Exchange e
+
+-- For the code inside. The words say something to send, which the line sends quietly or not
+abbrev pub SaysSent : Bool → List (List ℕ) → ScriptLine → Type 0
+SaysSent quiet words line = (e : exchange.Exchange) × SaysExchange words e × (line ≡ sent_as quiet e)
 
 abbrev pub SaysLine : List ℕ → ScriptLine → Type 0
 SaysLine text Nothing = IsBlank text ⊎ IsComment text

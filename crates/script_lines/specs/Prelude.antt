@@ -10,7 +10,7 @@ pub use Rattle.script_lines.specs.Extradite.{SaysExtradite, extraditing}
 pub use Rattle.script_lines.specs.Install.{SaysInstall, SpellsParameters, SpellsPrivileges, install_p1, installing}
 pub use Rattle.script_lines.specs.Keys.{SpellKeys, SpellTrio, SpellsKey}
 pub use Rattle.script_lines.specs.Life.{MayName, SaysLife, aid_or_none, changing_life}
-pub use Rattle.script_lines.specs.Line.{HasNoForm, OneLine, SaysLine, SaysSending}
+pub use Rattle.script_lines.specs.Line.{HasNoForm, OneLine, SaysLine, SaysSending, SaysSent, sent_as}
 pub use Rattle.script_lines.specs.Listing.{MayBegin, SaysListing, listing_command}
 pub use Rattle.script_lines.specs.Load.{SaysContent, SaysLoad, SpellsCount, SpellsDomain, beginning_load, block_element, content_bytes, hash_of, hash_word, length_field, loading}
 pub use Rattle.script_lines.specs.Open.{SaysOpen}

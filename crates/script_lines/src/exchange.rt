@@ -1,11 +1,15 @@
 //! The lines that send commands to the card (this profile's own).
 
-ghost use Rattle.script_lines.specs.Prelude.{Reads, SaysExchange, left};
+ghost use Rattle.std.specs.Prelude.{◌≡◌, ◌∷◌, MatchOption};
+ghost use Rattle.script_lines.specs.Prelude.{Reads, SaysExchange, SaysSent, left, sent_as, word_of};
+ghost use Rattle.script_lines.specs.declared.exchange.Exchange.{Exchange};
+ghost use Rattle.script_lines.specs.declared.verb.Verb.TheVariants.{Send};
 
 use crate::deletion::{self, Deletion};
 use crate::extradition::{self, Extradition};
 use crate::install::{self, Installation};
 use crate::life::{self, LifeChange};
+use crate::line::ScriptLine;
 use crate::listing::{self, Listing};
 use crate::load_file::{self, LoadFile};
 use crate::opening::{self, Opening};
@@ -66,11 +70,12 @@ pub enum Exchange {
     More(Listing),
 }
 
-/// Reads a line that sends commands. Its first word tells which form it may have.
-pub fn read(mut words: Words<'_>) -> Option<Exchange>
-    ensures { Reads (SaysExchange (left words.entry)) result }
+// Reads the words after a verb. It is out of line, so that a line which sends a command sets no other form's values to zeros.
+#[inline(never)]
+fn form(verb: Verb, words: Words<'_>) -> Option<Exchange>
+    ensures { Reads (SaysExchange (word_of verb ∷ left words.entry)) result }
 {
-    match Verb::read(words.take()?)? {
+    match verb {
         Verb::Select => life::may_name(words).map(Exchange::Select),
         Verb::Raw => octets::read(words).map(Exchange::Raw),
         Verb::Open => opening::read(words).map(Exchange::Open),
@@ -86,5 +91,47 @@ pub fn read(mut words: Words<'_>) -> Option<Exchange>
         Verb::Life => life::read(words).map(Exchange::Life),
         Verb::List => listing::read(words).map(Exchange::List),
         Verb::More => listing::read(words).map(Exchange::More),
+    }
+}
+
+// What a line sends, quietly or not.
+fn sent(quiet: bool, exchange: Exchange) -> ScriptLine
+    ensures { result ≡ sent_as quiet exchange }
+{
+    if quiet {
+        ScriptLine::Quiet(exchange)
+    } else {
+        ScriptLine::Exchange(exchange)
+    }
+}
+
+// Makes `line` what the words after `send` say.
+#[inline(never)]
+fn send(words: Words<'_>, quiet: bool, line: &mut ScriptLine) -> Option<()>
+    ensures { MatchOption result ((e : Exchange) → SaysExchange (word_of Send ∷ left words.entry) e → ⊥) (λ _. SaysSent quiet (word_of Send ∷ left words.entry) line.new) }
+{
+    let mut command = Plain::new();
+    command.read(words)?;
+    *line = sent(quiet, Exchange::Send(command));
+    Some(())
+}
+
+// Makes `line` what the words after a verb say.
+#[inline(never)]
+fn other(verb: Verb, words: Words<'_>, quiet: bool, line: &mut ScriptLine) -> Option<()>
+    ensures { MatchOption result ((e : Exchange) → SaysExchange (word_of verb ∷ left words.entry) e → ⊥) (λ _. SaysSent quiet (word_of verb ∷ left words.entry) line.new) }
+{
+    *line = sent(quiet, form(verb, words)?);
+    Some(())
+}
+
+/// Makes `line` what a line that sends commands says, quietly or not. Its first word tells which form it may have. Most send one command of a
+/// session, which is asked for first; each value that is handed on would be copied.
+pub fn read(mut words: Words<'_>, quiet: bool, line: &mut ScriptLine) -> Option<()>
+    ensures { MatchOption result ((e : Exchange) → SaysExchange (left words.entry) e → ⊥) (λ _. SaysSent quiet (left words.entry) line.new) }
+{
+    match Verb::read(words.take()?)? {
+        Verb::Send => send(words, quiet, line),
+        verb => other(verb, words, quiet, line),
     }
 }

@@ -5,11 +5,13 @@
 //! use script_lines::{Exchange, ScriptLine, Tokens};
 //!
 //! // The line reads `install 04 a000000001 a00000000101 a00000000102 00 c900`.
-//! match ScriptLine::read(text) {
-//!     Some(ScriptLine::Exchange(Exchange::Install(installation))) => {
-//!         let command = installation.command(&Tokens::Absent);
+//! let mut line = ScriptLine::Nothing;
+//! match line.read(text) {
+//!     Some(()) => {
+//!         if let ScriptLine::Exchange(Exchange::Install(installation)) = &line {
+//!             let command = installation.command(&Tokens::Absent);
+//!         }
 //!     }
-//!     Some(_) => {}
 //!     None => malformed(text),
 //! }
 //! ```
@@ -19,7 +21,7 @@
 //! them asks to print the status of the reply alone. A line of spaces, an empty one and one that begins
 //! with `#` say nothing.
 //!
-//! `ScriptLine::read` answers what a line says, or nothing where it is malformed. `specs/Control.antt` and
+//! By `ScriptLine::read` a line becomes what a text says, unless that is malformed. `specs/Control.antt` and
 //! `specs/Exchange.antt` say which verbs there are, and the other files of `specs/` which words follow each,
 //! what they spell, and the command that is sent. A text says at most one line.
 //!

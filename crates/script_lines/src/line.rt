@@ -1,7 +1,8 @@
 //! What a line says (this profile's own).
 
-ghost use Rattle.std.specs.Prelude.{◌≡◌, IfNone, IfSome};
-ghost use Rattle.script_lines.specs.Prelude.{HasNoForm, Reads, SaysLine, SaysSending, is_quiet, left};
+ghost use Rattle.std.specs.Prelude.{◌≡◌, IfNone, IfSome, MatchOption};
+ghost use Rattle.script_lines.specs.Prelude.{HasNoForm, SaysLine, SaysSending, is_quiet, left};
+ghost use Rattle.script_lines.specs.declared.line.ScriptLine.{ScriptLine};
 
 use crate::control::{self, Control};
 use crate::exchange::{self, Exchange};
@@ -24,14 +25,14 @@ pub enum ScriptLine {
     Quiet(Exchange),
 }
 
-// Something to send, perhaps after `- `.
-fn sending(words: Words<'_>) -> Option<ScriptLine>
-    ensures { Reads (SaysSending (left words.entry)) result }
+// Makes `line` something to send, perhaps after `- `.
+fn sending(words: Words<'_>, line: &mut ScriptLine) -> Option<()>
+    ensures { MatchOption result ((value : ScriptLine) → SaysSending (left words.entry) value → ⊥) (λ _. SaysSending (left words.entry) line.new) }
 {
     let mut rest = words;
     match rest.fixed(b"-") {
-        Some(()) => exchange::read(rest).map(ScriptLine::Quiet),
-        None => exchange::read(words).map(ScriptLine::Exchange),
+        Some(()) => exchange::read(rest, true, line),
+        None => exchange::read(words, false, line),
     }
 }
 
@@ -43,18 +44,20 @@ impl ScriptLine {
         matches!(self, ScriptLine::Quiet(_))
     }
 
-    /// What a text says, or nothing where it is malformed.
-    pub fn read(text: &[u8]) -> Option<ScriptLine>
-        ensures said { IfSome result (λ line. SaysLine text.now line) }
+    /// Becomes what a text says, unless that is malformed.
+    pub fn read(&mut self, text: &[u8]) -> Option<()>
+        ensures said { IfSome result (λ _. SaysLine text.now self.new) }
         ensures none { IfNone result (HasNoForm text.now) }
     {
         if says_nothing(text) {
-            return Some(ScriptLine::Nothing);
+            *self = ScriptLine::Nothing;
+            return Some(());
         }
         let words = Words::new(text);
         if let Some(control) = control::read(words) {
-            return Some(ScriptLine::Control(control));
+            *self = ScriptLine::Control(control);
+            return Some(());
         }
-        sending(words)
+        sending(words, self)
     }
 }

@@ -1,12 +1,12 @@
 //! Commands to send in a session (GlobalPlatform Amendment D, 6.2).
 
-ghost use Rattle.std.specs.Prelude.{◌≡◌, ◌↔◌, IsTrue};
+ghost use Rattle.std.specs.Prelude.{◌≡◌, ◌↔◌, IsTrue, MatchOption};
 ghost use Rattle.script_lines.specs.Prelude.{IsPlain, Reads, SaysSend, SpellsPlain, apdu_of, left, plain_of};
+ghost use Rattle.script_lines.specs.declared.plain.Plain.{Plain};
 
-use crate::values::bytes;
+use crate::values::front;
 use crate::words::Words;
 use apdu_core::Command;
-use arrayvec::ArrayVec;
 use tokens_receipts::DataField;
 
 /// A short command of class 80, without Le.
@@ -18,7 +18,24 @@ pub struct Plain {
     pub body: DataField,
 }
 
+// Whether a command of this class has no secure messaging and is for the basic channel.
+fn is_unprotected(class: u8) -> bool
+    ensures { IsTrue result ↔ (class ≡ 0x80) }
+{
+    class == 0x80
+}
+
 impl Plain {
+    /// A command to read into.
+    pub fn new() -> Plain {
+        Plain {
+            ins: 0x00,
+            p1: 0x00,
+            p2: 0x00,
+            body: DataField::new(),
+        }
+    }
+
     /// The command.
     pub fn command(&self) -> Command<'_>
         ensures { apdu_of result ≡ plain_of self.now }
@@ -32,50 +49,49 @@ impl Plain {
             le: None,
         }
     }
-}
 
-// Whether a command of this class has no secure messaging and is for the basic channel.
-fn is_unprotected(class: u8) -> bool
-    ensures { IsTrue result ↔ (class ≡ 0x80) }
-{
-    class == 0x80
-}
-
-// The command that the bytes are.
-fn plain_command(bytes: &[u8]) -> Option<Plain>
-    ensures { Reads (IsPlain bytes.now) result }
-{
-    match Command::read(bytes) {
-        Ok(command) => {
-            if !is_unprotected(command.class) {
-                return None;
+    // Becomes the command that the bytes are.
+    fn fill(&mut self, bytes: &[u8]) -> Option<()>
+        ensures { MatchOption result ((value : Plain) → IsPlain bytes.now value → ⊥) (λ _. IsPlain bytes.now self.new) }
+    {
+        match Command::read(bytes) {
+            Ok(command) => {
+                if !is_unprotected(command.class) {
+                    return None;
+                }
+                self.ins = command.ins;
+                self.p1 = command.p1;
+                self.p2 = command.p2;
+                self.body.clear();
+                self.body.try_extend_from_slice(command.body).ok()
             }
-            let mut body = ArrayVec::new();
-            body.try_extend_from_slice(command.body).ok()?;
-            Some(Plain {
-                ins: command.ins,
-                p1: command.p1,
-                p2: command.p2,
-                body,
-            })
+            Err(_) => None,
         }
-        Err(_) => None,
+    }
+
+    // Becomes the command that a word spells.
+    fn spelled(&mut self, word: &[u8]) -> Option<()>
+        ensures { MatchOption result ((value : Plain) → SpellsPlain word.now value → ⊥) (λ _. SpellsPlain word.now self.new) }
+    {
+        let mut room = [0; 261];
+        let count = front(word, &mut room)?;
+        self.fill(&room[..count])
+    }
+
+    /// Becomes what `HEX` says, the word after `send` or `bad`.
+    pub fn read(&mut self, words: Words<'_>) -> Option<()>
+        ensures { MatchOption result ((value : Plain) → SaysSend (left words.entry) value → ⊥) (λ _. SaysSend (left words.entry) self.new) }
+    {
+        self.spelled(words.last()?)
     }
 }
 
-// The command that a word spells.
-fn spelled(word: &[u8]) -> Option<Plain>
-    ensures { Reads (SpellsPlain word.now) result }
-{
-    let bytes: ArrayVec<u8, 261> = bytes(word)?;
-    plain_command(&bytes)
-}
-
-/// Reads `HEX`, the word after `send` or `bad`.
+/// The same, as a value.
 #[inline(never)]
 pub fn read(words: Words<'_>) -> Option<Plain>
     ensures { Reads (SaysSend (left words.entry)) result }
 {
-    let command = spelled(words.last()?)?;
+    let mut command = Plain::new();
+    command.read(words)?;
     Some(command)
 }

@@ -1,6 +1,6 @@
 //! The values of words in hexadecimal digits (this profile's own).
 
-ghost use Rattle.std.specs.Prelude.{ℕ, List, length, MatchOption};
+ghost use Rattle.std.specs.Prelude.{◌≤◌, ℕ, List, length, take, IfSome, MatchOption};
 ghost use Rattle.script_lines.specs.Words.{Reads, SpellsAid, SpellsByte, SpellsLevel, SpellsSome, SpellsStatus, SpellsUpTo};
 
 use apdu_core::Status;
@@ -27,17 +27,27 @@ pub fn array<const N: usize>(word: &[u8]) -> Option<[u8; N]>
     Some(bytes)
 }
 
-/// One byte at least, and at most `N`.
+/// One byte at least, and at most `N`, in the front of `room`: how many they are.
 #[tactic(auto, unfolding(crate::specs::Words::SpellsSome, crate::specs::Words::SpellsUpTo))]
-pub fn bytes<const N: usize>(word: &[u8]) -> Option<ArrayVec<u8, N>>
-    ensures { Reads (λ bytes. SpellsUpTo N word.now bytes.items) result }
+pub fn front<const N: usize>(word: &[u8], room: &mut [u8; N]) -> Option<usize>
+    ensures spelled { MatchOption result ((bytes : List ℕ) → SpellsUpTo N word.now bytes → ⊥) (λ count. SpellsUpTo N word.now (take count room.new)) }
+    ensures within { IfSome result (λ count. count ≤ N) }
 {
     let count = word.len() / 2;
     if count < 1 || count > N {
         return None;
     }
-    let mut room = [0; N];
     decode(word, &mut room[..count])?;
+    Some(count)
+}
+
+/// One byte at least, and at most `N`.
+#[tactic(auto, unfolding(crate::specs::Words::SpellsUpTo))]
+pub fn bytes<const N: usize>(word: &[u8]) -> Option<ArrayVec<u8, N>>
+    ensures { Reads (λ bytes. SpellsUpTo N word.now bytes.items) result }
+{
+    let mut room = [0; N];
+    let count = front(word, &mut room)?;
     let mut bytes = ArrayVec::new();
     bytes.try_extend_from_slice(&room[..count]).ok()?;
     Some(bytes)

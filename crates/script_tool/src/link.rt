@@ -1,8 +1,11 @@
 //! What a host sends commands over (this profile's own).
 
 ghost use Rattle.std.specs.Prelude.{◌≡◌, ◌++◌, [], ◌∷◌, ℕ, List, Bool, true, false, OnOk, OnErr};
-ghost use Rattle.script_tool.specs.Prelude.{Answered, Command, Event, HasCause, Input, LeadsTo, Reset, State, powered_on};
-ghost use Rattle.script_tool.specs.Talk.{Reset as PowerOff};
+ghost use Rattle.faults.specs.Faults.{HasCause};
+ghost use Rattle.policy_machine.specs.Run.{Input, Command, Reset};
+ghost use Rattle.policy_machine.specs.State.{State, powered_on};
+ghost use Rattle.script_tool.specs.Lead.{LeadsTo};
+ghost use Rattle.script_tool.specs.Talk.{Answered, Event, Reset as PowerOff};
 
 use arrayvec::ArrayVec;
 

@@ -75,7 +75,8 @@ impl Player {
         ensures cause { result ≡ Err StepStop.LinkFailed → Rose (L.faults link.old) (L.faults link.new) }
         ensures later { L.faults link.old ≤ L.faults link.new }
     {
-        let Some(said) = ScriptLine::read(line.text) else {
+        let mut said = ScriptLine::Nothing;
+        let Some(()) = said.read(line.text) else {
             return Err(StepStop::Form(line.number));
         };
         let printout = match play(&mut self.host, &mut self.wire, link, &said) {

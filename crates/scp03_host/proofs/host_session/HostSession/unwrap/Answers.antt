@@ -1,6 +1,5 @@
-use Rattle.std.proofs.Common.{◌≡◌, ◌∙◌, ◌++◌, ◌-◌, ◌<◌, ◌^◌, List, [], ℕ, ap, sym, refl, length, take, drop, true, Ok, arith}
+use Rattle.std.proofs.Common.{◌≡◌, ◌∙◌, ◌++◌, ◌-◌, List, ℕ, ap, sym, refl, length, true, Ok, arith}
 use Rattle.std.proofs.lemmas.Bool.{eqb-false, true≢false}
-use Rattle.std.proofs.lemmas.List.{length-drop, take-append-drop}
 use Rattle.scp03_card.specs.Protected.{r_mac, reply_field}
 use Rattle.scp03_host.proofs.ReplyLemmas as reply
 use Rattle.scp03_host.proofs.host_session.HostSession.unwrap.Goals as goal
@@ -116,6 +115,5 @@ returns-clause-back g c = λ session body status stands u.
     let some = c.in-Some.ensures.some session stands in
     let theirs = reply.cut_parts session c.args.reply.now (c.in-Ok.field-0.body.now) (c.in-Ok.field-0.status.0) c.split_at.result.0.now c.split_at.result.1.now cut body status u in (
       (λ i. Ok (record { 0 = sym theirs.2 i })),
-      c.append-2.ensures ∙ ap (λ (x : List ℕ). x ++ take c.in-Some.len c.plain_field.new.plain) c.clear.ensures
-          ∙ reply.one_reply_field session (take c.in-Some.len c.plain_field.new.plain) body some.1 u.bytes (some.0 ∙ sym theirs.0),
+      reply.one_reply_field session c.plain_field.new.out.items body some.1 u.bytes (some.0 ∙ sym theirs.0),
     )

@@ -12,12 +12,12 @@ use Rattle.script_tool.proofs.player.Player.step.Goals as goal
 
 pub returns-in-Err-clause-played : goal.returns-in-Err-clause-played
 returns-in-Err-clause-played g c host said represents says =
-    let same = one_line c.args.line.now.text.now c.in-Some.said said c.in-Some.ensures.said says in
+    let same = one_line c.args.line.now.text.now c.read.new.self said c.in-Some.ensures.said says in
     subst (λ (s : ScriptLine). IsBroken g.L.CardLink c.args.link.now c.play.new.link (playing host s)) same (c.in-Err.ensures.played host (rw (← c.self.view_is) at represents))
 
 pub returns-clause-played : goal.returns-clause-played
 returns-clause-played g c host said represents says =
-    let same = one_line c.args.line.now.text.now c.in-Some.said said c.in-Some.ensures.said says in
+    let same = one_line c.args.line.now.text.now c.read.new.self said c.in-Some.ensures.said says in
     let played = c.in-Ok.ensures.played host (rw (← c.self.view_is) at represents) in
     subst (λ (s : ScriptLine). HasPlayed g.L.CardLink c.args.link.now c.play.new.link host s c.remember.new.self c.write.new.out.items c.kind.result) same
     (record {

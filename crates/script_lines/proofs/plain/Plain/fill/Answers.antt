@@ -2,7 +2,7 @@ use Rattle.std.proofs.Common.{sym, ◌∙◌}
 use Rattle.apdu_core.specs.Apdu.{apdu_of}
 use Rattle.script_lines.proofs.ShortCommand.{class_first}
 use Rattle.script_lines.specs.Send.{apdu_with}
-use Rattle.script_lines.proofs.plain.plain_command.Goals as goal
+use Rattle.script_lines.proofs.plain.Plain.fill.Goals as goal
 
 pub returns-then-not-is_unprotected : goal.returns-then-not-is_unprotected
 returns-then-not-is_unprotected c = λ value h.
