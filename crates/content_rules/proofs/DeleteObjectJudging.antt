@@ -4,30 +4,21 @@ use Rattle.std.specs.Prelude.{IsSome, MatchOption}
 use Rattle.std.specs.Option.{option_map}
 use Rattle.std.proofs.lemmas.Bool.{eqb-false, eqb-true}
 use Rattle.card_types.proofs.FoundNames.{found_entry_named, found_file_named, none_found_none_named}
-use Rattle.card_types.specs.Found.{aid_of}
+use Rattle.content_rules.specs.Prelude.{Above, ActsIn, Admitted, ComesFrom, DeletingFails, IsDeletionOf, IsFileInCharge, IsFrom, IsInCharge, IsInUse, IsInUseIn, IsToGo, RepresentsState, acting, aid_of, domain_slot, held}
 use Rattle.card_types.specs.Registry as registry
-use Rattle.card_types.specs.Represents.{domain_slot, held}
 use Rattle.card_types.specs.declared.factory.TheConstants.{FACTORY_FILE, ISSUER}
 use Rattle.card_types.specs.declared.found.Found.{Found}
 use Rattle.card_types.specs.declared.found.Found.TheVariants as found
 use Rattle.card_types.specs.declared.tables.Entry.{Entry}
 use Rattle.card_types.specs.declared.tables.Tables.{Tables}
-use Rattle.domain_tree.specs.Above.{Above}
-use Rattle.policy_machine.specs.Admission.{Admitted}
-use Rattle.policy_machine.specs.Charge.{IsFileInCharge, IsInCharge}
-use Rattle.policy_machine.specs.DeleteObject.{ComesFrom, DeletingFails, IsInUse, IsToGo}
-use Rattle.policy_machine.specs.Management.{acting}
 use Rattle.policy_machine.specs.declared.delete_object.RuleDO.TheVariants.{DO1, DO2, DO4}
 use Rattle.policy_machine.specs.declared.channels.TheConstants.{CHANNELS}
 use Rattle.content_rules.proofs.DeleteObjectNames.{entry_no_source, file_alone, file_unloaded, file_unselected, from_named, from_slots, loaded_named, others_named, selected_named}
 use Rattle.content_rules.proofs.DeleteObjectSlots.{from_used}
-use Rattle.content_rules.specs.DeleteObjectFound.{IsFrom, IsInUseIn}
-use Rattle.content_rules.specs.DeleteObjectRequests.{IsDeletionOf}
 use Rattle.content_rules.specs.declared.delete_object.DeletionRequest.{DeletionRequest}
 use Rattle.policy_slots.proofs.ChargeNamed.{above_alike}
 use Rattle.policy_slots.proofs.FileCharge.{entry_no_file}
 use Rattle.policy_slots.proofs.ThingsFound.{acting_named, entry_at}
-use Rattle.policy_slots.specs.StateShown.{ActsIn, RepresentsState}
 use Rattle.policy_slots.specs.declared.live.Live.{Live}
 
 module _ (page : ℕ → List ℕ) (tables : Tables) (domain : ℕ) (admitted : Admitted) (acts : ActsIn page tables domain admitted) where

@@ -11,24 +11,16 @@ use Rattle.card_types.proofs.FileNames.{one_file_slot}
 use Rattle.card_types.proofs.FoundNames.{found_file_named}
 use Rattle.card_types.proofs.LeastOfList.{found_fits}
 use Rattle.card_types.proofs.Shows.{shows_used}
-use Rattle.card_types.specs.Aid.{IsAid, same_aid}
-use Rattle.card_types.specs.Found.{aid_of}
+use Rattle.content_rules.specs.Prelude.{Channel, ComesFrom, HasOthers, HasOthersIn, HasSelected, IsAid, IsDomainNamed, IsFrom, IsLoadDomain, IsLoadNamed, IsLoadedInto, IsSelected, IsSelectedIn, IsWellEntry, IsWellFile, LoadSession, Represents, Volatile, Well, aid_of, channel_at, domain_aid, entry_named, entry_of, file_aid, file_named, file_of, held, same_aid}
 use Rattle.card_types.specs.Registry as registry
-use Rattle.card_types.specs.Registry.{entry_named, file_named}
-use Rattle.card_types.specs.Represents.{Represents, domain_aid, entry_of, file_aid, file_of, held}
-use Rattle.card_types.specs.Well.{IsDomainNamed, IsWellEntry, IsWellFile, Well}
 use Rattle.card_types.specs.declared.found.Found.TheVariants as found
 use Rattle.card_types.specs.declared.tables.Entry.{Entry}
 use Rattle.card_types.specs.declared.tables.LoadFile.{LoadFile}
 use Rattle.card_types.specs.declared.tables.Tables.{Tables}
 use Rattle.policy_machine.proofs.FileApart.{file_apart}
-use Rattle.policy_machine.specs.DeleteObject.{ComesFrom, HasOthers, IsLoadedInto, IsSelected}
-use Rattle.policy_machine.specs.State.{Channel, LoadSession, Volatile, channel_at}
 use Rattle.policy_machine.specs.declared.channels.TheConstants.{CHANNELS}
 use Rattle.content_rules.proofs.DeleteObjectSlots.{from_at}
-use Rattle.content_rules.specs.DeleteObjectFound.{HasOthersIn, HasSelected, IsFrom, IsLoadDomain}
 use Rattle.policy_slots.proofs.FileCharge.{entry_no_file}
-use Rattle.policy_slots.specs.StateShown.{IsLoadNamed, IsSelectedIn}
 use Rattle.policy_slots.specs.declared.live.Live.{Live}
 use Rattle.policy_slots.specs.declared.live.LoadName.{LoadName}
 

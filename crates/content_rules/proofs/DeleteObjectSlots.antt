@@ -6,12 +6,10 @@ use Rattle.std.proofs.lemmas.Bool.{and_from, and_parts, cases_Bool, cases_lt, eq
 use Rattle.std.proofs.lemmas.List.{get_or_past}
 use Rattle.card_types.proofs.EntryNames.{one_entry_slot}
 use Rattle.card_types.proofs.SameAid.{same_aid_decides}
-use Rattle.card_types.specs.Aid.{same_aid}
-use Rattle.card_types.specs.Represents.{IsInOrder, held}
+use Rattle.content_rules.specs.Prelude.{HasOthersIn, HasSelected, IsFrom, IsInOrder, comes_from_slot, has_slot, held, is_file_of, is_other_of, same_aid}
 use Rattle.card_types.specs.declared.tables.Entry.{Entry}
 use Rattle.card_types.specs.declared.tables.Tables.{Tables}
 use Rattle.policy_machine.specs.declared.channels.TheConstants.{CHANNELS}
-use Rattle.content_rules.specs.DeleteObjectFound.{HasOthersIn, HasSelected, IsFrom, comes_from_slot, has_slot, is_file_of, is_other_of}
 use Rattle.policy_slots.proofs.AnySlot.{passing_slot, slot_passes}
 use Rattle.policy_slots.specs.declared.live.Live.{Live}
 

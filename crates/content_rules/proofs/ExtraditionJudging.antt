@@ -2,30 +2,19 @@
 use Rattle.std.proofs.Common.{◌≡◌, ◌≢◌, ◌↔◌, ◌⊎◌, inl, inr, ℕ, Bool, List, Option, Some, ap, sym, subst, ◌∙◌}
 use Rattle.std.specs.Prelude.{IsTrue, MatchOption, not}
 use Rattle.card_types.proofs.FoundNames.{found_entry_named, found_file_named, none_found_none_named}
-use Rattle.card_types.specs.Found.{aid_of}
+use Rattle.content_rules.specs.Prelude.{ActsIn, Admitted, ExtraditingFails, InstallData, IsAtOrAbove, IsDomainNamed, IsExtraditionOf, IsOutOfReach, IsUnapprovable, IsVerifier, Key, Represents, acting, aid_of, held, is_personalized}
 use Rattle.card_types.specs.Registry as registry
-use Rattle.card_types.specs.Registry.{Key}
-use Rattle.card_types.specs.Represents.{Represents, held}
-use Rattle.card_types.specs.Well.{IsDomainNamed}
 use Rattle.card_types.specs.declared.factory.TheConstants.{FACTORY_FILE, ISSUER}
 use Rattle.card_types.specs.declared.found.Found.{Found}
 use Rattle.card_types.specs.declared.found.Found.TheVariants as found
 use Rattle.card_types.specs.declared.tables.Entry.{Entry}
 use Rattle.card_types.specs.declared.tables.Tables.{Tables}
-use Rattle.policy_machine.specs.Admission.{Admitted}
-use Rattle.policy_machine.specs.Charge.{IsAtOrAbove}
-use Rattle.policy_machine.specs.Delegation.{IsVerifier}
-use Rattle.policy_machine.specs.Extradition.{ExtraditingFails, IsOutOfReach, IsUnapprovable, is_personalized}
-use Rattle.policy_machine.specs.InstallFields.{InstallData}
-use Rattle.policy_machine.specs.Management.{acting}
 use Rattle.policy_machine.specs.declared.extradition.RuleEX.{RuleEX}
 use Rattle.policy_machine.specs.declared.extradition.RuleEX.TheVariants.{EX2, EX3, EX5}
 use Rattle.policy_machine.proofs.Approved.{one_holder}
-use Rattle.content_rules.specs.ExtraditionRequests.{IsExtraditionOf}
 use Rattle.content_rules.specs.declared.extradition.ExtraditionRequest.{ExtraditionRequest}
 use Rattle.policy_slots.proofs.HoldsTold.{not_told}
 use Rattle.policy_slots.proofs.ThingsFound.{entry_at, named_as}
-use Rattle.policy_slots.specs.StateShown.{ActsIn}
 
 abbrev Unfit : Option registry.Entry → Type 0
 Unfit o = MatchOption o ⊥ (λ entry. entry.life ≢ is_personalized)

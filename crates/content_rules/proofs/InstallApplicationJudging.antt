@@ -7,13 +7,8 @@ use Rattle.card_types.proofs.FoundNames.{found_entry_named, found_file_named, no
 use Rattle.card_types.proofs.Members.{contains_map, mapped}
 use Rattle.card_types.proofs.Room.{entry_room, no_entry_room}
 use Rattle.card_types.proofs.SameAid.{same_aid_decides}
-use Rattle.card_types.specs.Aid.{same_aid}
-use Rattle.card_types.specs.Search.{IsFirstFree, NoneFree}
-use Rattle.card_types.specs.Found.{aid_of}
-use Rattle.card_types.specs.Privileges.{bits_of, has}
+use Rattle.content_rules.specs.Prelude.{ActsIn, Admitted, Holds, InstallingFails, IsFileInCharge, IsFirstFree, IsInstallOf, IsLoadNamed, IsOutOfCharge, IsTakenAid, LoadSession, NoneFree, Represents, acting, aid_of, bits_of, entry_has, entry_named, exceeds_by, file_named, file_of, guarded_privileges, has, held, is_loaded_as, is_privileged, same_aid}
 use Rattle.card_types.specs.Registry as registry
-use Rattle.card_types.specs.Registry.{entry_named, file_named}
-use Rattle.card_types.specs.Represents.{Represents, file_of, held}
 use Rattle.card_types.specs.declared.factory.TheConstants.{FACTORY_FILE, FACTORY_MODULE}
 use Rattle.card_types.specs.declared.found.Found.{Found}
 use Rattle.card_types.specs.declared.found.Found.TheVariants as found
@@ -22,21 +17,12 @@ use Rattle.card_types.specs.declared.privileges.Privileges.{Privileges}
 use Rattle.card_types.specs.declared.tables.Entry.{Entry}
 use Rattle.card_types.specs.declared.tables.LoadFile.{LoadFile}
 use Rattle.card_types.specs.declared.tables.Tables.{Tables}
-use Rattle.domain_tree.specs.Holders.{entry_has}
 use Rattle.policy_machine.proofs.Filtered.{any_there, there_any}
-use Rattle.policy_machine.specs.Admission.{Admitted}
-use Rattle.policy_machine.specs.Charge.{IsFileInCharge, is_privileged}
-use Rattle.policy_machine.specs.Delegation.{Holds}
-use Rattle.policy_machine.specs.InstallApplication.{InstallingFails, IsTakenAid, guarded_privileges}
-use Rattle.policy_machine.specs.Management.{acting}
-use Rattle.policy_machine.specs.State.{LoadSession}
 use Rattle.policy_machine.specs.declared.install_application.RuleII.{RuleII}
 use Rattle.policy_machine.specs.declared.install_application.RuleII.TheVariants.{II2, II3, II4, II6, II7}
-use Rattle.content_rules.specs.InstallApplicationRequests.{IsInstallOf, IsOutOfCharge, exceeds_by, is_loaded_as}
 use Rattle.content_rules.specs.declared.install_application.InstallRequest.{InstallRequest}
 use Rattle.content_rules.specs.declared.install_application.TheConstants.{GUARDED}
 use Rattle.policy_slots.proofs.HoldsTold.{holds_named}
-use Rattle.policy_slots.specs.StateShown.{ActsIn, IsLoadNamed}
 use Rattle.policy_slots.specs.declared.live.LoadName.{LoadName}
 
 -- none is found

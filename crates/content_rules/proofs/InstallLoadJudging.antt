@@ -2,28 +2,17 @@
 use Rattle.std.proofs.Common.{◌≡◌, ◌≢◌, ◌↔◌, ◌⊎◌, inl, inr, ℕ, Bool, true, false, List, [], ◌∷◌, length, Option, None, Some, refl, ap, sym, subst, ◌∙◌, arith}
 use Rattle.std.specs.Prelude.{IfSome, IsSome, IsTrue, is_some}
 use Rattle.card_types.proofs.Room.{file_room, no_file_room}
-use Rattle.card_types.specs.Aid.{IsAid}
-use Rattle.card_types.specs.Search.{IsFirstFree, NoneFree}
-use Rattle.card_types.specs.Found.{aid_of}
-use Rattle.card_types.specs.Registry.{entry_named, file_named}
-use Rattle.card_types.specs.Well.{IsDomainNamed}
+use Rattle.content_rules.specs.Prelude.{ActsIn, Admitted, InstallingLoadFails, IsAid, IsAtOrAbove, IsDomainNamed, IsFirstFree, IsLoadInstallOf, IsLoadNamed, LoadData, LoadSession, NamesDomain, NoneFree, acting, aid_of, entry_named, file_domain_for, file_named, named_or}
 use Rattle.card_types.specs.declared.found.Found.{Found}
 use Rattle.card_types.specs.declared.found.Found.TheVariants as found
 use Rattle.card_types.specs.declared.limits.TheConstants.{FILES}
 use Rattle.card_types.specs.declared.tables.Entry.{Entry}
 use Rattle.card_types.specs.declared.tables.Tables.{Tables}
-use Rattle.policy_machine.specs.Admission.{Admitted}
-use Rattle.policy_machine.specs.Charge.{IsAtOrAbove}
-use Rattle.policy_machine.specs.InstallLoad.{InstallingLoadFails, LoadData, file_domain_for, named_or}
-use Rattle.policy_machine.specs.Management.{acting}
-use Rattle.policy_machine.specs.State.{LoadSession}
 use Rattle.policy_machine.specs.declared.install_load.RuleIL.{RuleIL}
 use Rattle.policy_machine.specs.declared.install_load.RuleIL.TheVariants.{IL2, IL3, IL4, IL5, IL7}
 use Rattle.content_rules.proofs.InstallApplicationJudging.{not_there, there}
-use Rattle.content_rules.specs.InstallLoadRequests.{IsLoadInstallOf, NamesDomain}
 use Rattle.content_rules.specs.declared.install_load.LoadInstallRequest.{LoadInstallRequest}
 use Rattle.policy_slots.proofs.ThingsFound.{acting_named}
-use Rattle.policy_slots.specs.StateShown.{ActsIn, IsLoadNamed}
 use Rattle.policy_slots.specs.declared.live.LoadName.{LoadName}
 
 -- a name of a domain is not empty

@@ -2,12 +2,7 @@
 use Rattle.std.proofs.Common.{◌≡◌, ◌++◌, Option, None, Some, refl, inl, inr, arith}
 use Rattle.std.specs.Prelude.{map}
 use Rattle.std.specs.Option.{option_map}
-use Rattle.policy_machine.specs.Admission.{Admitted}
-use Rattle.policy_machine.specs.Refusal.{IsFirst}
-use Rattle.policy_machine.specs.Load.{IsLoadOn, LoadFails, LoadingFails, block_of, block_rules, front_rules, last_rules, load_rules}
-use Rattle.policy_machine.specs.LoadBlocks.{Block, HasNoLength, HasNoRoom, HasOtherCount, HasOtherHash}
-use Rattle.policy_machine.specs.Management.{ManagementFails}
-use Rattle.policy_machine.specs.State.{LoadSession}
+use Rattle.content_rules.specs.Prelude.{Admitted, Block, HasNoLength, HasNoRoom, HasOtherCount, HasOtherHash, IsFirst, IsLoadOn, LoadFails, LoadSession, LoadingFails, ManagementFails, block_of, block_rules, front_rules, last_rules, load_rules, number_rules}
 use Rattle.policy_machine.specs.declared.load.RuleLO.{RuleLO}
 use Rattle.policy_machine.specs.declared.management.RuleM.TheVariants.{M1, M2}
 use Rattle.policy_machine.specs.declared.load.RuleLO.TheVariants.{LO3, LO4, LO5, LO6}
@@ -16,7 +11,6 @@ use Rattle.policy_machine.specs.declared.rule.Rule.TheVariants.{LO}
 use Rattle.policy_machine.proofs.FirstJoined.{first_behind, first_within}
 use Rattle.policy_machine.proofs.FirstLike.{first_of_group}
 use Rattle.policy_machine.proofs.LoadOfChannel.{of_load}
-use Rattle.content_rules.specs.LoadFound.{number_rules}
 use Rattle.policy_slots.proofs.ManagementFirst.{behind_management}
 
 module _ (admitted : Admitted) where

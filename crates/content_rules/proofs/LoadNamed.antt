@@ -5,29 +5,15 @@ use Rattle.std.proofs.lemmas.Bool.Decides.{eqb_tells}
 use Rattle.std.proofs.lemmas.List.Elements.{All-contains}
 use Rattle.card_types.proofs.LeastOfList.{found_fits}
 use Rattle.card_types.proofs.SameAid.{same_aid_decides}
-use Rattle.card_types.specs.Aid.{same_aid}
-use Rattle.card_types.specs.Found.{aid_of}
+use Rattle.content_rules.specs.Prelude.{ActsIn, Admitted, IsAtOrAbove, IsDomainNamed, IsForLast, IsLoadNamed, IsLoadOn, IsWellEntry, IsWellLoad, LoadSession, LoadingFails, Registry, Well, acting, aid_of, counted, domain_aid, entry_named, held, named_on, same_aid, with_block}
 use Rattle.card_types.specs.Registry as registry
-use Rattle.card_types.specs.Registry.{Registry, entry_named}
-use Rattle.card_types.specs.Represents.{domain_aid, held}
-use Rattle.card_types.specs.Well.{IsDomainNamed, IsWellEntry, Well}
 use Rattle.card_types.specs.declared.found.Found.TheVariants as found
 use Rattle.card_types.specs.declared.tables.Entry.{Entry}
 use Rattle.card_types.specs.declared.tables.Tables.{Tables}
-use Rattle.policy_machine.specs.Admission.{Admitted}
-use Rattle.policy_machine.specs.Load.{IsLoadOn, LoadingFails}
-use Rattle.policy_machine.specs.LoadBlocks.{with_block}
-use Rattle.policy_machine.specs.Charge.{IsAtOrAbove}
-use Rattle.policy_machine.specs.Management.{acting}
-use Rattle.policy_machine.specs.Sound.{IsWellLoad}
-use Rattle.policy_machine.specs.State.{LoadSession}
 use Rattle.policy_machine.specs.declared.load.RuleLO.TheVariants.{LO7}
 use Rattle.policy_machine.proofs.LoadOfChannel.{of_load}
-use Rattle.content_rules.specs.LoadFound.{IsForLast, named_on}
 use Rattle.policy_slots.proofs.HoldsTold.{not_told}
 use Rattle.policy_slots.proofs.ThingsFound.{acting_named, named_by_slot}
-use Rattle.policy_slots.specs.StateShown.{ActsIn, IsLoadNamed}
-use Rattle.policy_slots.specs.LiveEnds.{counted}
 use Rattle.policy_slots.specs.declared.live.LoadName.{LoadName}
 
 -- the load session with this name is the channel's

@@ -1,25 +1,16 @@
 -- The rules of INSTALL [for make selectable] after its form, by its request.
 use Rattle.std.proofs.Common.{◌≡◌, ◌≢◌, ℕ, List, [], ◌∷◌, Option, None, Some, refl, ap, sym, subst, ◌∙◌, inl, inr}
 use Rattle.std.specs.Prelude.{MatchOption}
-use Rattle.card_types.specs.Found.{aid_of}
+use Rattle.content_rules.specs.Prelude.{Above, ActsIn, Admitted, IsFirst, IsSelectableOf, MakingSelectableFails, MayManage, aid_of, domain_slot, entry_named, entry_of, held, is_installed, managed_selectable}
 use Rattle.card_types.specs.Registry as registry
-use Rattle.card_types.specs.Registry.{entry_named}
-use Rattle.card_types.specs.Represents.{domain_slot, entry_of, held}
 use Rattle.card_types.specs.declared.found.Found.TheVariants as found
 use Rattle.card_types.specs.declared.tables.Entry.{Entry}
 use Rattle.card_types.specs.declared.tables.Tables.{Tables}
-use Rattle.domain_tree.specs.Above.{Above}
-use Rattle.policy_machine.specs.Admission.{Admitted}
-use Rattle.policy_machine.specs.Delegation.{MayManage}
-use Rattle.policy_machine.specs.Refusal.{IsFirst}
-use Rattle.policy_machine.specs.MakeSelectable.{MakingSelectableFails, is_installed, managed_selectable}
 use Rattle.policy_machine.specs.declared.make_selectable.RuleMS.{RuleMS}
 use Rattle.policy_machine.specs.declared.make_selectable.RuleMS.TheVariants.{MS1, MS2, MS3, MS4, MS5}
 use Rattle.content_rules.proofs.PrivilegesGiven.{others_given, same_given}
-use Rattle.content_rules.specs.MakeSelectableRequests.{IsSelectableOf}
 use Rattle.content_rules.specs.declared.make_selectable.SelectableRequest.{SelectableRequest}
 use Rattle.policy_slots.proofs.ThingsFound.{IsEntryAt, above_by_aids, above_by_slots, acting_at, entry_at, named_as}
-use Rattle.policy_slots.specs.StateShown.{ActsIn}
 
 module _ (page : ℕ → List ℕ) (tables : Tables) (domain : ℕ) (admitted : Admitted) (acts : ActsIn page tables domain admitted)
     (request : SelectableRequest) (is : IsSelectableOf request admitted.command) where

@@ -2,10 +2,9 @@
 use Rattle.std.proofs.Common.{◌≡◌, ◌≢◌, ◌⊎◌, ℕ, List, [], length, Option, None, Some, ap, ◌∙◌, inl, inr, arith}
 use Rattle.std.specs.Prelude.{MatchOption}
 use Rattle.card_types.proofs.PrivilegeFacts.{length-ArePrivilegeBytes}
-use Rattle.card_types.specs.Privileges.{ArePrivilegeBytes}
+use Rattle.content_rules.specs.Prelude.{AreGiven, ArePrivilegeBytes}
 use Rattle.card_types.specs.declared.privileges.Privileges.{Privileges}
 use Rattle.policy_machine.proofs.InstallApplicationAsking.{one_privileges}
-use Rattle.content_rules.specs.MakeSelectableRequests.{AreGiven}
 
 -- no bytes spell privileges
 no_bytes : (privileges : Privileges) (bytes : List ℕ) → bytes ≡ [] → ArePrivilegeBytes privileges bytes → ⊥

@@ -3,18 +3,11 @@ use Rattle.std.proofs.Common.{◌≡◌, ◌≢◌, inl, inr, ℕ, List, [], ◌
 use Rattle.std.specs.Prelude.{MatchOption}
 use Rattle.std.proofs.lemmas.Bool.{cases_eq}
 use Rattle.card_types.proofs.Domains.{same_domain, used_from_step}
-use Rattle.card_types.specs.Hierarchy.{IsPath}
-use Rattle.card_types.specs.Registry.{domain_of}
-use Rattle.card_types.specs.Represents.{domain_aid, domain_slot, held}
+use Rattle.content_rules.specs.Prelude.{Above, ActsIn, Admitted, HasOthersIn, IsPath, IsReceipterIn, domain_aid, domain_of, domain_slot, held}
 use Rattle.card_types.specs.declared.limits.TheConstants.{RECEIPT_LIMIT}
 use Rattle.card_types.specs.declared.tables.Entry.{Entry}
 use Rattle.card_types.specs.declared.tables.Tables.{Tables}
 use Rattle.domain_tree.proofs.AboveNamed.{slot_above}
-use Rattle.domain_tree.specs.Above.{Above}
-use Rattle.policy_machine.specs.Admission.{Admitted}
-use Rattle.content_rules.specs.DeleteObjectFound.{HasOthersIn}
-use Rattle.policy_slots.specs.StateShown.{ActsIn}
-use Rattle.policy_slots.specs.HoldersFound.{IsReceipterIn}
 
 -- where steps lead from another entry to this slot, the last one is a step of another
 has_others : (tables : Tables) (slot from : ℕ) (path : List ℕ) → slot ≢ from → IsPath (domain_slot tables.entries.items) from path slot → HasOthersIn tables slot

@@ -1,9 +1,8 @@
 use Rattle.std.proofs.Common.{◌≡◌, inl, inr, Some, sym, subst}
-use Rattle.card_types.specs.Found.{aid_of}
+use Rattle.content_rules.specs.Prelude.{HasNoneFrom, HasOthersIn, IsAlone, IsUnselected, aid_of}
 use Rattle.card_types.specs.declared.found.Found.{Found}
 use Rattle.content_rules.proofs.DeleteObjectJudging.{alone_needed, entry_needed, related_needed}
 use Rattle.content_rules.proofs.DeleteObjectSlots.{source_searched, unless}
-use Rattle.content_rules.specs.DeleteObjectFound.{HasNoneFrom, HasOthersIn, IsAlone, IsUnselected}
 use Rattle.content_rules.proofs.delete_object.is_needed.Goals as goal
 
 pub returns-in-Entry-clause-told : goal.returns-in-Entry-clause-told

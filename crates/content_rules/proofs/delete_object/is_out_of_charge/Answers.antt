@@ -1,9 +1,7 @@
 use Rattle.std.proofs.Common.{◌≡◌, inl, inr, Some, refl, sym, subst, ◌∙◌}
 use Rattle.std.proofs.lemmas.Bool.{eq-eqb, eqb-true, false≢true, iff_false}
-use Rattle.card_types.specs.Found.{aid_of}
+use Rattle.content_rules.specs.Prelude.{IsInCharge, acting, aid_of}
 use Rattle.card_types.specs.declared.found.Found.{Found}
-use Rattle.policy_machine.specs.Charge.{IsInCharge}
-use Rattle.policy_machine.specs.Management.{acting}
 use Rattle.content_rules.proofs.DeleteObjectJudging.{entry_outside, strangers_alike}
 use Rattle.content_rules.proofs.delete_object.is_out_of_charge.Goals as goal
 

@@ -1,8 +1,7 @@
 use Rattle.std.proofs.Common.{rules, ◌≡◌, inl, inr, Some, sym, ◌∙◌}
 use Rattle.std.specs.List.{list_any}
-use Rattle.card_types.specs.Represents.{held}
+use Rattle.content_rules.specs.Prelude.{held, is_file_of, is_other_of}
 use Rattle.content_rules.proofs.DeleteObjectSlots.{entries_searched, files_searched, others_found}
-use Rattle.content_rules.specs.DeleteObjectFound.{is_file_of, is_other_of}
 use Rattle.content_rules.proofs.in_use.has_others.Goals as goal
 use Rattle.content_rules.proofs.in_use.has_others.Goals.{After-unwrap-entry}
 

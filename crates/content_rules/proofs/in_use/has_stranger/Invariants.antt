@@ -1,7 +1,5 @@
 use Rattle.std.proofs.Common.{ℕ, ◌<◌}
-use Rattle.card_types.specs.Represents.{domain_slot}
-use Rattle.domain_tree.specs.Above.{Above}
-use Rattle.content_rules.specs.DeleteObjectFound.{IsFrom}
+use Rattle.content_rules.specs.Prelude.{Above, IsFrom, domain_slot}
 use Rattle.content_rules.proofs.in_use.has_stranger.Given as goal
 
 abbrev pub invariant-loop-slot : goal.invariant-loop-slot

@@ -1,9 +1,8 @@
 use Rattle.std.proofs.Common.{None, Some}
 use Rattle.std.specs.Prelude.{map}
-use Rattle.policy_machine.specs.Load.{LoadFails}
+use Rattle.content_rules.specs.Prelude.{LoadFails, number_rules}
 use Rattle.policy_machine.specs.declared.rule.Rule.TheVariants.{LO}
 use Rattle.content_rules.proofs.LoadJudging.{number_decides}
-use Rattle.content_rules.specs.LoadFound.{number_rules}
 use Rattle.policy_slots.proofs.ManagementFirst.{management_handed}
 use Rattle.content_rules.proofs.load.judge_load.Goals as goal
 

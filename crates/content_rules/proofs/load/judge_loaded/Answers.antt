@@ -1,12 +1,9 @@
 use Rattle.std.proofs.Common.{rules, ◌≡◌, None, Option, Some, subst, sym, ◌∙◌}
 use Rattle.std.specs.Prelude.{slice_index_or}
 use Rattle.policy_machine.proofs.Judging.{by_err}
-use Rattle.policy_machine.specs.Refusal.{IsFirst}
-use Rattle.policy_machine.specs.Load.{LoadFails, last_rules}
+use Rattle.content_rules.specs.Prelude.{IsFirst, IsForLast, IsLoadNamed, LoadFails, last_rules}
 use Rattle.content_rules.proofs.LoadNamed.{named_is}
-use Rattle.content_rules.specs.LoadFound.{IsForLast}
 use Rattle.policy_slots.proofs.Selected.{selected_acts}
-use Rattle.policy_slots.specs.StateShown.{IsLoadNamed}
 use Rattle.policy_slots.specs.declared.live.LoadName.{LoadName}
 use Rattle.content_rules.proofs.load.judge_loaded.Goals as goal
 

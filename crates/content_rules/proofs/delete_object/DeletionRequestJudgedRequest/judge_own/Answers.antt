@@ -1,14 +1,9 @@
 use Rattle.std.proofs.Common.{ℕ, List, [], ◌∷◌, Option, inl, inr, refl}
 use Rattle.std.proofs.lemmas.Bool.{iff_false}
-use Rattle.policy_machine.specs.Admission.{Admitted}
-use Rattle.policy_machine.specs.DeleteObject.{DeletingFails, managed_delete_object}
-use Rattle.policy_machine.specs.Refusal.{IsFirst}
-use Rattle.policy_machine.specs.ManagedForm.{OwnFirst}
+use Rattle.content_rules.specs.Prelude.{ActsIn, Admitted, DeletingFails, IsDeletionOf, IsFirst, OwnFirst, managed_delete_object}
 use Rattle.policy_machine.specs.declared.delete_object.RuleDO.{RuleDO}
 use Rattle.policy_machine.specs.declared.delete_object.RuleDO.TheVariants.{DO1, DO2, DO3, DO4}
 use Rattle.content_rules.proofs.DeleteObjectJudging.{fixed, free, known, unknown}
-use Rattle.content_rules.specs.DeleteObjectRequests.{IsDeletionOf}
-use Rattle.policy_slots.specs.StateShown.{ActsIn}
 use Rattle.content_rules.proofs.delete_object.DeletionRequestJudgedRequest.judge_own.Goals as goal
 use Rattle.content_rules.proofs.delete_object.DeletionRequestJudgedRequest.judge_own.Goals.{After-is_barred}
 

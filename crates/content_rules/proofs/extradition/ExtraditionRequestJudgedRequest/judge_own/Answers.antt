@@ -1,15 +1,9 @@
 use Rattle.std.proofs.Common.{rules, ℕ, List, [], ◌∷◌, Option, Some, inl, inr, refl, ap, ◌∙◌}
 use Rattle.std.proofs.lemmas.Bool.{iff_false}
-use Rattle.policy_machine.specs.Admission.{Admitted}
-use Rattle.policy_machine.specs.Extradition.{ExtraditingFails, managed_extradition}
-use Rattle.policy_machine.specs.Refusal.{IsFirst}
-use Rattle.policy_machine.specs.InstallFields.{InstallData}
-use Rattle.policy_machine.specs.ManagedForm.{OwnFirst}
+use Rattle.content_rules.specs.Prelude.{ActsIn, Admitted, ExtraditingFails, InstallData, IsExtraditionOf, IsFirst, OwnFirst, managed_extradition}
 use Rattle.policy_machine.specs.declared.extradition.RuleEX.{RuleEX}
 use Rattle.policy_machine.specs.declared.extradition.RuleEX.TheVariants.{EX1, EX2, EX3, EX4, EX5, EX6, EX7}
 use Rattle.content_rules.proofs.ExtraditionJudging.{fixed, free, known, no_domain, unknown}
-use Rattle.content_rules.specs.ExtraditionRequests.{IsExtraditionOf}
-use Rattle.policy_slots.specs.StateShown.{ActsIn}
 use Rattle.content_rules.proofs.extradition.ExtraditionRequestJudgedRequest.judge_own.Goals as goal
 use Rattle.content_rules.proofs.extradition.ExtraditionRequestJudgedRequest.judge_own.Goals.{After-is_barred, After-is_fixed, After-is_unfit}
 

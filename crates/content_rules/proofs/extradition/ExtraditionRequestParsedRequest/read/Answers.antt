@@ -1,10 +1,8 @@
 use Rattle.std.proofs.Common.{◌≡◌, [], length, sym, ap, subst, ◌∙◌, arith}
 use Rattle.std.proofs.lemmas.Bool.{eq-eqb, eqb-true}
 use Rattle.std.proofs.lemmas.List.{nil_from_length}
-use Rattle.card_types.specs.Aid.{IsAid}
-use Rattle.policy_machine.specs.InstallFields.{InstallData}
+use Rattle.content_rules.specs.Prelude.{InstallData, IsAid, given_of}
 use Rattle.policy_machine.proofs.LengthFields.{one_data}
-use Rattle.content_rules.specs.FieldsRead.{given_of}
 use Rattle.content_rules.proofs.extradition.ExtraditionRequestParsedRequest.read.Goals as goal
 use Rattle.content_rules.proofs.extradition.ExtraditionRequestParsedRequest.read.Goals.{then-not-is_empty-via-then-not-is_empty, then-not-is_empty-via-else-not-is_empty+then-not-is_empty-2}
 

@@ -1,14 +1,9 @@
 use Rattle.std.proofs.Common.{ℕ, List, [], ◌∷◌, Option, inl, inr, refl, sym}
 use Rattle.std.proofs.lemmas.Bool.{iff_false}
-use Rattle.policy_machine.specs.Admission.{Admitted}
-use Rattle.policy_machine.specs.Refusal.{IsFirst}
-use Rattle.policy_machine.specs.InstallApplication.{InstallAsked, InstallingFails, entry_made, managed_install}
-use Rattle.policy_machine.specs.ManagedForm.{OwnFirst}
+use Rattle.content_rules.specs.Prelude.{ActsIn, Admitted, InstallAsked, InstallingFails, IsFirst, IsInstallOf, IsLoadNamed, OwnFirst, entry_made, managed_install}
 use Rattle.policy_machine.specs.declared.install_application.RuleII.{RuleII}
 use Rattle.policy_machine.specs.declared.install_application.RuleII.TheVariants.{II1, II2, II3, II4, II5, II6, II7}
 use Rattle.content_rules.proofs.InstallApplicationJudging.{exceeds, free, full, in_charge, no_file, no_module, out_of_charge, roomy, source, taken, within}
-use Rattle.content_rules.specs.InstallApplicationRequests.{IsInstallOf}
-use Rattle.policy_slots.specs.StateShown.{ActsIn, IsLoadNamed}
 use Rattle.content_rules.proofs.install_application.InstallRequestJudgedRequest.judge_own.Goals as goal
 use Rattle.content_rules.proofs.install_application.InstallRequestJudgedRequest.judge_own.Goals.{After-first_free, After-is_out_of_charge, After-may_be_made}
 

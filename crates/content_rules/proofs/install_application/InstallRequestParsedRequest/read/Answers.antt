@@ -1,11 +1,7 @@
 use Rattle.std.proofs.Common.{refl, subst, arith, ◌∙◌}
 use Rattle.std.proofs.lemmas.Bool.{iff_false}
-use Rattle.card_types.specs.Aid.{IsAid}
-use Rattle.card_types.specs.Privileges.{ArePrivilegeBytes}
-use Rattle.policy_machine.specs.InstallApplication.{AreInstallParameters}
-use Rattle.policy_machine.specs.InstallFields.{InstallData}
+use Rattle.content_rules.specs.Prelude.{AreInstallParameters, ArePrivilegeBytes, InstallData, IsAid, given_of}
 use Rattle.policy_machine.proofs.InstallApplicationAsking.{same_given}
-use Rattle.content_rules.specs.FieldsRead.{given_of}
 use Rattle.content_rules.proofs.install_application.InstallRequestParsedRequest.read.Goals as goal
 
 pub returns-in_err-module-clause-none : goal.returns-in_err-module-clause-none

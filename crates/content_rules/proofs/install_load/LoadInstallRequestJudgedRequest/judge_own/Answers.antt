@@ -1,16 +1,11 @@
 use Rattle.std.proofs.Common.{rules, ℕ, List, [], ◌∷◌, Option, inl, inr, refl, sym, ◌∙◌}
 use Rattle.std.proofs.lemmas.Bool.{iff_false}
-use Rattle.policy_machine.specs.Admission.{Admitted}
-use Rattle.policy_machine.specs.Refusal.{IsFirst}
-use Rattle.policy_machine.specs.InstallLoad.{InstallingLoadFails, LoadData, judged_install_load}
-use Rattle.policy_machine.specs.ManagedForm.{OwnFirst}
+use Rattle.content_rules.specs.Prelude.{ActsIn, Admitted, InstallingLoadFails, IsFirst, IsLoadInstallOf, IsLoadNamed, LoadData, OwnFirst, judged_install_load}
 use Rattle.policy_machine.specs.declared.install_load.RuleIL.{RuleIL}
 use Rattle.policy_machine.specs.declared.install_load.RuleIL.TheVariants.{IL1, IL2, IL3, IL4, IL5, IL6, IL7}
 use Rattle.content_rules.proofs.InstallApplicationJudging.{none_found}
 use Rattle.content_rules.proofs.InstallLoadJudging.{free, full, idle, loading, roomy, taken, within}
-use Rattle.content_rules.specs.InstallLoadRequests.{IsLoadInstallOf}
 use Rattle.policy_slots.proofs.ThingsFound.{acting_named}
-use Rattle.policy_slots.specs.StateShown.{ActsIn, IsLoadNamed}
 use Rattle.content_rules.proofs.install_load.LoadInstallRequestJudgedRequest.judge_own.Goals as goal
 use Rattle.content_rules.proofs.install_load.LoadInstallRequestJudgedRequest.judge_own.Goals.{After-find, After-first_free, After-is_at_or_above}
 

@@ -1,9 +1,7 @@
 use Rattle.std.proofs.Common.{◌≡◌, ◌⊎◌, [], refl, subst, arith, ◌∙◌}
-use Rattle.card_types.specs.Aid.{IsAid}
-use Rattle.policy_machine.specs.InstallLoad.{LoadData}
+use Rattle.content_rules.specs.Prelude.{IsAid, LoadData, load_data_of}
 use Rattle.policy_machine.proofs.LengthFields.{no_load_data, one_load_data}
 use Rattle.content_rules.proofs.InstallLoadJudging.{names_some}
-use Rattle.content_rules.specs.FieldsRead.{load_data_of}
 use Rattle.content_rules.proofs.install_load.LoadInstallRequestParsedRequest.read.Goals as goal
 
 pub returns-in_err-fields-clause-none : goal.returns-in_err-fields-clause-none

@@ -1,8 +1,7 @@
 use Rattle.std.proofs.Common.{rules, ◌≡◌, Some, refl}
 use Rattle.std.proofs.lemmas.Bool.{iff_false}
-use Rattle.card_types.specs.Represents.{domain_slot, held}
+use Rattle.content_rules.specs.Prelude.{Above, domain_slot, held}
 use Rattle.domain_tree.proofs.AboveNamed.{free_of_loops}
-use Rattle.domain_tree.specs.Above.{Above}
 use Rattle.policy_machine.specs.declared.make_selectable.RuleMS.TheVariants.{MS1, MS2, MS3, MS4, MS5}
 use Rattle.content_rules.proofs.MakeSelectableJudging.{elsewhere_first, other_life_first, others_first, own_passes, unknown_first, unmanaged_first}
 use Rattle.content_rules.proofs.make_selectable.SelectableRequestJudgedRequest.judge_own.Goals as goal

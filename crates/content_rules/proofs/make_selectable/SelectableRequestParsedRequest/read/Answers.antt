@@ -1,10 +1,9 @@
 use Rattle.std.proofs.Common.{length, sym, subst, ◌∙◌, arith}
 use Rattle.std.proofs.lemmas.Bool.{eqb-true}
 use Rattle.std.proofs.lemmas.List.{nil_from_length}
-use Rattle.policy_machine.specs.InstallFields.{InstallData}
+use Rattle.content_rules.specs.Prelude.{InstallData, given_of}
 use Rattle.policy_machine.proofs.LengthFields.{one_data}
 use Rattle.content_rules.proofs.PrivilegesGiven.{GivesPrivileges, gives_privileges, unreadable}
-use Rattle.content_rules.specs.FieldsRead.{given_of}
 use Rattle.content_rules.proofs.make_selectable.SelectableRequestParsedRequest.read.Goals as goal
 
 pub returns-in_err-privileges-clause-none : goal.returns-in_err-privileges-clause-none
