@@ -24,7 +24,7 @@ use Rattle.policy_machine.specs.ManagedForm.{command_form}
 pub returns-in_err-judge_put_versions-clause-done : goal.returns-in_err-judge_put_versions-clause-done
 returns-in_err-judge_put_versions-clause-done g c page admitted acts says channels request holds =
     let rule = c.in_err-judge_put_versions.field-0.0 in
-    let refused = c.in_err-judge_put_versions.ensures.refused page admitted c.args.self.now.keys.now (subst (λ t. ActsIn page t c.args.domain admitted) (sym c.tables.ensures.tables) acts) request in
+    let refused = c.in_err-judge_put_versions.ensures.refused page admitted c.args.self.now.keys.now (subst (λ t. ActsIn page t c.args.acting.now.domain admitted) (sym c.tables.ensures.tables) acts) request in
     let first = first_within ((command_form managed_put_key).fails admitted) key_rules version_rules rule refused in
     refusal_managed admitted page c.args.records.now.tables c.args.reply.now.items c.from_residual.result rule c.from_residual.ensures.1
     (put_judged admitted (Some rule) request.form first) c.requires.empty
@@ -45,9 +45,9 @@ returns-in_err-judge_put_keys-in-One-clause-done g c page admitted acts says cha
     let secured = subst (λ h. RepresentsSecureChannel h (secure_channel_for admitted)) c.in-Secured.is holds in
     let checks = checks_said admitted c.args.self.now.replaced c.args.self.now.version (One sent) asked c.in-Secured.session secured (key ∷ []) (λ session stands. (c.open_key-key.ensures.key session stands, tt))
     c.open_key-key.result.fits (fits_one c.open_key-key.result.fits (sent_key sent) key c.open_key-key.ensures.fits) in
-    let before = c.in_ok-judge_put_versions.ensures.passed page admitted c.args.self.now.keys.now (subst (λ t. ActsIn page t c.args.domain admitted) (sym c.tables.ensures.tables) acts) request in
+    let before = c.in_ok-judge_put_versions.ensures.passed page admitted c.args.self.now.keys.now (subst (λ t. ActsIn page t c.args.acting.now.domain admitted) (sym c.tables.ensures.tables) acts) request in
     let refused = c.in_err-judge_put_keys-in-One.ensures.refused page admitted c.args.self.now.version
-    (subst (λ t. ActsIn page t c.args.domain admitted) (sym c.tables-in-One.ensures.tables) acts) request checks in
+    (subst (λ t. ActsIn page t c.args.acting.now.domain admitted) (sym c.tables-in-One.ensures.tables) acts) request checks in
     let first = first_behind ((command_form managed_put_key).fails admitted) key_rules version_rules (Some c.in_err-judge_put_keys-in-One.field-0.0) before refused in
     refusal_managed admitted page c.args.records.now.tables c.args.reply.now.items c.from_residual-in_err-judge_put_keys-in-One.result c.in_err-judge_put_keys-in-One.field-0.0
     c.from_residual-in_err-judge_put_keys-in-One.ensures.1
@@ -65,7 +65,7 @@ place_one-requires-clause-length g c =
 
 pub place_one-requires-clause-judged : goal.place_one-requires-clause-judged
 place_one-requires-clause-judged g c =
-    judged_by c.args.domain c.args.self.now.replaced c.args.self.now.version c.tables.result.now c.tables-in-One.result.now c.args.records.now.tables c.args.self.now.keys.now (One c.in-One.sent)
+    judged_by c.args.acting.now.domain c.args.self.now.replaced c.args.self.now.version c.tables.result.now c.tables-in-One.result.now c.args.records.now.tables c.args.self.now.keys.now (One c.in-One.sent)
     c.tables.ensures.tables c.tables-in-One.ensures.tables c.in-One.is c.in_ok-judge_put_versions.ensures.known c.in_ok-judge_put_versions.ensures.free
     (c.in_ok-judge_put_keys-in-One.ensures.roomy c.args.self.now.version)
 
@@ -117,7 +117,7 @@ place_set-requires-clause-lengths g c =
 
 pub place_set-requires-clause-judged : goal.place_set-requires-clause-judged
 place_set-requires-clause-judged g c =
-    judged_by c.args.domain c.args.self.now.replaced c.args.self.now.version c.tables.result.now c.tables-in-Three.result.now c.args.records.now.tables c.args.self.now.keys.now
+    judged_by c.args.acting.now.domain c.args.self.now.replaced c.args.self.now.version c.tables.result.now c.tables-in-Three.result.now c.args.records.now.tables c.args.self.now.keys.now
     (Three c.in-Three.first c.in-Three.second c.in-Three.third) c.tables.ensures.tables c.tables-in-Three.ensures.tables c.in-Three.is
     c.in_ok-judge_put_versions.ensures.known c.in_ok-judge_put_versions.ensures.free (c.in_ok-judge_put_keys-in-Three.ensures.roomy c.args.self.now.version)
 
@@ -132,9 +132,9 @@ returns-in_err-judge_put_keys-in-Three-clause-done g c page admitted acts says c
     (fits_three c.open_key-enc.result.fits c.open_key-mac.result.fits c.open_key-kek.result.fits c.all_fit-fit.result
     (sent_key c.in-Three.first) (sent_key c.in-Three.second) (sent_key c.in-Three.third) c.open_key-enc.result.bytes.items c.open_key-mac.result.bytes.items c.open_key-kek.result.bytes.items
     c.all_fit-fit.ensures c.open_key-enc.ensures.fits c.open_key-mac.ensures.fits c.open_key-kek.ensures.fits) in
-    let before = c.in_ok-judge_put_versions.ensures.passed page admitted c.args.self.now.keys.now (subst (λ t. ActsIn page t c.args.domain admitted) (sym c.tables.ensures.tables) acts) request in
+    let before = c.in_ok-judge_put_versions.ensures.passed page admitted c.args.self.now.keys.now (subst (λ t. ActsIn page t c.args.acting.now.domain admitted) (sym c.tables.ensures.tables) acts) request in
     let refused = c.in_err-judge_put_keys-in-Three.ensures.refused page admitted c.args.self.now.version
-    (subst (λ t. ActsIn page t c.args.domain admitted) (sym c.tables-in-Three.ensures.tables) acts) request checks in
+    (subst (λ t. ActsIn page t c.args.acting.now.domain admitted) (sym c.tables-in-Three.ensures.tables) acts) request checks in
     let first = first_behind ((command_form managed_put_key).fails admitted) key_rules version_rules (Some c.in_err-judge_put_keys-in-Three.field-0.0) before refused in
     refusal_managed admitted page c.args.records.now.tables c.args.reply.now.items c.from_residual-in_err-judge_put_keys-in-Three.result c.in_err-judge_put_keys-in-Three.field-0.0
     c.from_residual-in_err-judge_put_keys-in-Three.ensures.1
@@ -149,9 +149,9 @@ returns-in_ok-judge_put_keys-in-One g c =
     let sent = c.in-One.sent in
     let key = c.open_key-key.result.bytes.items in
     let form = formed_one put.replaced put.version sent (subst (λ k. IsWellFormed (PutKey put.replaced put.version k)) c.in-One.is c.requires.formed) in
-    let judged = judged_by c.args.domain put.replaced put.version c.tables.result.now c.tables-in-One.result.now before put.keys.now (One sent) c.tables.ensures.tables c.tables-in-One.ensures.tables c.in-One.is
+    let judged = judged_by c.args.acting.now.domain put.replaced put.version c.tables.result.now c.tables-in-One.result.now before put.keys.now (One sent) c.tables.ensures.tables c.tables-in-One.ensures.tables c.in-One.is
     c.in_ok-judge_put_versions.ensures.known c.in_ok-judge_put_versions.ensures.free (c.in_ok-judge_put_keys-in-One.ensures.roomy put.version) in
-    let puts = puts_lent c.args.domain put.replaced put.version before.keys.items after.keys.items (c.deref.result.now ∷ []) (key ∷ []) (λ i. c.deref.ensures.0 i ∷ []) c.place_one.ensures.put in
+    let puts = puts_lent c.args.acting.now.domain put.replaced put.version before.keys.items after.keys.items (c.deref.result.now ∷ []) (key ∷ []) (λ i. c.deref.ensures.0 i ∷ []) c.place_one.ensures.put in
     let lengths = one_length sent key form.lengths c.open_key-key.ensures.length in
     record {
       done = λ page admitted acts says channels request holds.
@@ -160,15 +160,15 @@ returns-in_ok-judge_put_keys-in-One g c =
           let brings = brought admitted put.replaced put.version (One sent) asked c.in-Secured.session secured (key ∷ []) (λ session stands. (c.open_key-key.ensures.key session stands, tt)) in
           let checks = checks_said admitted put.replaced put.version (One sent) asked c.in-Secured.session secured (key ∷ []) (λ session stands. (c.open_key-key.ensures.key session stands, tt))
           c.open_key-key.result.fits (fits_one c.open_key-key.result.fits (sent_key sent) key c.open_key-key.ensures.fits) in
-          let versions = c.in_ok-judge_put_versions.ensures.passed page admitted put.keys.now (subst (λ t. ActsIn page t c.args.domain admitted) (sym c.tables.ensures.tables) acts) request in
-          let passed = c.in_ok-judge_put_keys-in-One.ensures.passed page admitted put.version (subst (λ t. ActsIn page t c.args.domain admitted) (sym c.tables-in-One.ensures.tables) acts) request checks in
+          let versions = c.in_ok-judge_put_versions.ensures.passed page admitted put.keys.now (subst (λ t. ActsIn page t c.args.acting.now.domain admitted) (sym c.tables.ensures.tables) acts) request in
+          let passed = c.in_ok-judge_put_keys-in-One.ensures.passed page admitted put.version (subst (λ t. ActsIn page t c.args.acting.now.domain admitted) (sym c.tables-in-One.ensures.tables) acts) request checks in
           let first = first_behind ((command_form managed_put_key).fails admitted) key_rules version_rules None versions passed in
-          put_managed before after same.life same.entries same.files same.objects c.args.domain put.replaced put.version (key ∷ []) puts lengths (inr (form.new, refl)) judged c.requires.domain
+          put_managed before after same.life same.entries same.files same.objects c.args.acting.now.domain put.replaced put.version (key ∷ []) puts lengths (inr (form.new, refl)) judged c.requires.domain
           page admitted acts (One sent) asked brings c.write_check.new.reply.items _ (put_judged admitted None request.form first)
           (body_one put.version (sent_key sent) c.args.reply.now.items c.push.new.self.items c.write_check.new.reply.items c.requires.empty c.push.ensures.items c.write_check.ensures.written) refl);
-      selected = entries_selected c.args._live.now before.entries.items after.entries.items same.entries;
+      selected = entries_selected c.args.acting.now.live.now before.entries.items after.entries.items same.entries;
       free = files_free before after same.files;
-      cards = put_cards before after same.life same.entries same.files same.objects c.args.domain put.replaced put.version (key ∷ []) puts lengths (inr (form.new, refl)) judged c.requires.domain c.requires.cards;
+      cards = put_cards before after same.life same.entries same.files same.objects c.args.acting.now.domain put.replaced put.version (key ∷ []) puts lengths (inr (form.new, refl)) judged c.requires.domain c.requires.cards;
       same = search rules;
       refused = search rules;
       room = search rules;
@@ -189,9 +189,9 @@ returns-in_ok-judge_put_keys-in-Three g c =
     let keys = Three one two three in
     let bytes = enc.result.bytes.items ∷ mac.result.bytes.items ∷ kek.result.bytes.items ∷ [] in
     let form = formed_set put.replaced put.version one two three (subst (λ k. IsWellFormed (PutKey put.replaced put.version k)) c.in-Three.is c.requires.formed) in
-    let judged = judged_by c.args.domain put.replaced put.version c.tables.result.now c.tables-in-Three.result.now before put.keys.now keys c.tables.ensures.tables c.tables-in-Three.ensures.tables c.in-Three.is
+    let judged = judged_by c.args.acting.now.domain put.replaced put.version c.tables.result.now c.tables-in-Three.result.now before put.keys.now keys c.tables.ensures.tables c.tables-in-Three.ensures.tables c.in-Three.is
     c.in_ok-judge_put_versions.ensures.known c.in_ok-judge_put_versions.ensures.free (c.in_ok-judge_put_keys-in-Three.ensures.roomy put.version) in
-    let puts = puts_lent c.args.domain put.replaced put.version before.keys.items after.keys.items (c.deref-in-Three.result.now ∷ c.deref-in-Three-2.result.now ∷ c.deref-in-Three-3.result.now ∷ []) bytes
+    let puts = puts_lent c.args.acting.now.domain put.replaced put.version before.keys.items after.keys.items (c.deref-in-Three.result.now ∷ c.deref-in-Three-2.result.now ∷ c.deref-in-Three-3.result.now ∷ []) bytes
     (λ i. c.deref-in-Three.ensures.0 i ∷ c.deref-in-Three-2.ensures.0 i ∷ c.deref-in-Three-3.ensures.0 i ∷ []) c.place_set.ensures.put in
     let lengths = three_lengths put.replaced put.version one two three _ _ _ form enc.ensures.length mac.ensures.length kek.ensures.length in
     record {
@@ -204,17 +204,17 @@ returns-in_ok-judge_put_keys-in-Three g c =
           (λ session stands. (enc.ensures.key session stands, (mac.ensures.key session stands, (kek.ensures.key session stands, tt)))) c.all_fit-fit.result
           (fits_three enc.result.fits mac.result.fits kek.result.fits c.all_fit-fit.result (sent_key one) (sent_key two) (sent_key three) enc.result.bytes.items mac.result.bytes.items kek.result.bytes.items
           c.all_fit-fit.ensures enc.ensures.fits mac.ensures.fits kek.ensures.fits) in
-          let versions = c.in_ok-judge_put_versions.ensures.passed page admitted put.keys.now (subst (λ t. ActsIn page t c.args.domain admitted) (sym c.tables.ensures.tables) acts) request in
-          let passed = c.in_ok-judge_put_keys-in-Three.ensures.passed page admitted put.version (subst (λ t. ActsIn page t c.args.domain admitted) (sym c.tables-in-Three.ensures.tables) acts) request checks in
+          let versions = c.in_ok-judge_put_versions.ensures.passed page admitted put.keys.now (subst (λ t. ActsIn page t c.args.acting.now.domain admitted) (sym c.tables.ensures.tables) acts) request in
+          let passed = c.in_ok-judge_put_keys-in-Three.ensures.passed page admitted put.version (subst (λ t. ActsIn page t c.args.acting.now.domain admitted) (sym c.tables-in-Three.ensures.tables) acts) request checks in
           let first = first_behind ((command_form managed_put_key).fails admitted) key_rules version_rules None versions passed in
-          put_managed before after same.life same.entries same.files same.objects c.args.domain put.replaced put.version bytes puts lengths (inl (form.new.0, form.new.1, refl)) judged c.requires.domain
+          put_managed before after same.life same.entries same.files same.objects c.args.acting.now.domain put.replaced put.version bytes puts lengths (inl (form.new.0, form.new.1, refl)) judged c.requires.domain
           page admitted acts keys asked brings c.write_check-in-Three-3.new.reply.items _ (put_judged admitted None request.form first)
           (body_three put.version (sent_key one) (sent_key two) (sent_key three) c.args.reply.now.items c.push-in-Three.new.self.items
           c.write_check-in-Three.new.reply.items c.write_check-in-Three-2.new.reply.items c.write_check-in-Three-3.new.reply.items c.requires.empty c.push-in-Three.ensures.items
           c.write_check-in-Three.ensures.written c.write_check-in-Three-2.ensures.written c.write_check-in-Three-3.ensures.written) refl);
-      selected = entries_selected c.args._live.now before.entries.items after.entries.items same.entries;
+      selected = entries_selected c.args.acting.now.live.now before.entries.items after.entries.items same.entries;
       free = files_free before after same.files;
-      cards = put_cards before after same.life same.entries same.files same.objects c.args.domain put.replaced put.version bytes puts lengths (inl (form.new.0, form.new.1, refl)) judged c.requires.domain c.requires.cards;
+      cards = put_cards before after same.life same.entries same.files same.objects c.args.acting.now.domain put.replaced put.version bytes puts lengths (inl (form.new.0, form.new.1, refl)) judged c.requires.domain c.requires.cards;
       same = search rules;
       refused = search rules;
       room = search rules;
