@@ -1,17 +1,19 @@
-use Rattle.std.proofs.Common.{[], ◌∷◌, ◌∙◌, None, Some, ap, inl, inr, length, refl, rules, sym, subst}
+use Rattle.std.proofs.Common.{◌≡◌, [], ◌∷◌, ◌∙◌, None, Some, ap, inl, inr, length, refl, rules, sym, subst}
 use Rattle.card_types.specs.Represents.{IsInOrder}
 use Rattle.card_types.specs.Well.{IsKeyLength}
 use Rattle.policy_machine.proofs.FirstJoined.{first_behind, first_within}
 use Rattle.policy_machine.proofs.PutKeyLaws.{put_judged}
 use Rattle.policy_machine.specs.PutKeyRules.{key_rules, version_rules}
 use Rattle.policy_rules.specs.Requests.{IsRequestOf, IsWellFormed, sent_key}
+use Rattle.card_core.specs.declared.put_key.PutKeyRequest.{PutKeyRequest}
+use Rattle.policy_rules.specs.declared.put_key.SealedKey.{SealedKey}
 use Rattle.policy_rules.specs.declared.put_key.PutKeys.TheVariants.{One, Three}
 use Rattle.policy_rules.specs.declared.request.Request.TheVariants.{PutKey}
 use Rattle.policy_slots.specs.StateShown.{ActsIn}
 use Rattle.card_core.proofs.Answered.{entries_selected}
 use Rattle.card_core.proofs.Cards.{in_order}
 use Rattle.card_core.proofs.FreePages.{files_free}
-use Rattle.card_core.proofs.PutKeyBrought.{brought, checks_said, formed_one, formed_set, one_length, three_lengths}
+use Rattle.card_core.proofs.PutKeyBrought.{IsFormedOne, IsFormedSet, brought, checks_said, formed_one, formed_set, one_length, three_lengths}
 use Rattle.card_core.proofs.PutKeyDone.{body_one, body_three, fits_one, fits_three, judged_by, put_managed}
 use Rattle.card_core.proofs.Managing.{refusal_managed}
 use Rattle.card_core.proofs.PutKeyTables.{put_cards, puts_lent}
@@ -20,6 +22,14 @@ use Rattle.card_core.specs.Offers.{secure_channel_for}
 use Rattle.card_core.proofs.put_key.PutKeyRequestManagedRequest.manage.Goals as goal
 use Rattle.policy_machine.specs.PutKey.{managed_put_key}
 use Rattle.policy_machine.specs.ManagedForm.{command_form}
+
+-- the keys of a well-formed request
+one_of : (put : PutKeyRequest) (sent : SealedKey) → put.keys.now ≡ One sent → IsWellFormed (PutKey put.replaced put.version put.keys.now) → IsFormedOne put.replaced put.version sent
+one_of put sent is formed = formed_one put.replaced put.version sent (subst (λ k. IsWellFormed (PutKey put.replaced put.version k)) is formed)
+
+set_of : (put : PutKeyRequest) (enc mac dek : SealedKey) → put.keys.now ≡ Three enc mac dek → IsWellFormed (PutKey put.replaced put.version put.keys.now)
+    → IsFormedSet put.replaced put.version enc mac dek
+set_of put enc mac dek is formed = formed_set put.replaced put.version enc mac dek (subst (λ k. IsWellFormed (PutKey put.replaced put.version k)) is formed)
 
 pub returns-in_err-judge_put_versions-clause-done : goal.returns-in_err-judge_put_versions-clause-done
 returns-in_err-judge_put_versions-clause-done g c page admitted acts says channels request holds =
@@ -31,7 +41,7 @@ returns-in_err-judge_put_versions-clause-done g c page admitted acts says channe
 
 pub open_key-key-requires : goal.open_key-key-requires
 open_key-key-requires g c =
-    let form = formed_one c.args.self.now.replaced c.args.self.now.version c.in-One.sent (subst (λ k. IsWellFormed (PutKey c.args.self.now.replaced c.args.self.now.version k)) c.in-One.is c.requires.formed) in
+    let form = one_of c.args.self.now c.in-One.sent c.in-One.is c.requires.formed in
     record { size = form.lengths.size; sealed = form.lengths.sealed }
 
 pub judge_put_keys-requires : goal.judge_put_keys-requires
@@ -56,11 +66,11 @@ returns-in_err-judge_put_keys-in-One-clause-done g c page admitted acts says cha
 -- the rest of the token or receipt key
 pub write_check-requires-clause-size : goal.write_check-requires-clause-size
 write_check-requires-clause-size g c =
-    (formed_one c.args.self.now.replaced c.args.self.now.version c.in-One.sent (subst (λ k. IsWellFormed (PutKey c.args.self.now.replaced c.args.self.now.version k)) c.in-One.is c.requires.formed)).lengths.check
+    (one_of c.args.self.now c.in-One.sent c.in-One.is c.requires.formed).lengths.check
 
 pub place_one-requires-clause-length : goal.place_one-requires-clause-length
 place_one-requires-clause-length g c =
-    let form = formed_one c.args.self.now.replaced c.args.self.now.version c.in-One.sent (subst (λ k. IsWellFormed (PutKey c.args.self.now.replaced c.args.self.now.version k)) c.in-One.is c.requires.formed) in
+    let form = one_of c.args.self.now c.in-One.sent c.in-One.is c.requires.formed in
     subst IsKeyLength (sym (ap length c.deref.ensures.0 ∙ c.open_key-key.ensures.length)) form.lengths.size
 
 pub place_one-requires-clause-judged : goal.place_one-requires-clause-judged
@@ -71,20 +81,17 @@ place_one-requires-clause-judged g c =
 
 pub open_key-enc-requires : goal.open_key-enc-requires
 open_key-enc-requires g c =
-    let form = formed_set c.args.self.now.replaced c.args.self.now.version c.in-Three.first c.in-Three.second c.in-Three.third
-    (subst (λ k. IsWellFormed (PutKey c.args.self.now.replaced c.args.self.now.version k)) c.in-Three.is c.requires.formed) in
+    let form = set_of c.args.self.now c.in-Three.first c.in-Three.second c.in-Three.third c.in-Three.is c.requires.formed in
     record { size = form.enc_lengths.size; sealed = form.enc_lengths.sealed }
 
 pub open_key-mac-requires : goal.open_key-mac-requires
 open_key-mac-requires g c =
-    let form = formed_set c.args.self.now.replaced c.args.self.now.version c.in-Three.first c.in-Three.second c.in-Three.third
-    (subst (λ k. IsWellFormed (PutKey c.args.self.now.replaced c.args.self.now.version k)) c.in-Three.is c.requires.formed) in
+    let form = set_of c.args.self.now c.in-Three.first c.in-Three.second c.in-Three.third c.in-Three.is c.requires.formed in
     record { size = form.mac_lengths.size; sealed = form.mac_lengths.sealed }
 
 pub open_key-kek-requires : goal.open_key-kek-requires
 open_key-kek-requires g c =
-    let form = formed_set c.args.self.now.replaced c.args.self.now.version c.in-Three.first c.in-Three.second c.in-Three.third
-    (subst (λ k. IsWellFormed (PutKey c.args.self.now.replaced c.args.self.now.version k)) c.in-Three.is c.requires.formed) in
+    let form = set_of c.args.self.now c.in-Three.first c.in-Three.second c.in-Three.third c.in-Three.is c.requires.formed in
     record { size = form.dek_lengths.size; sealed = form.dek_lengths.sealed }
 
 pub judge_put_keys-requires-in-Three : goal.judge_put_keys-requires-in-Three
@@ -92,23 +99,19 @@ judge_put_keys-requires-in-Three g c = record { in_order = subst IsInOrder (sym 
 
 pub write_check-requires-in-Three-clause-size : goal.write_check-requires-in-Three-clause-size
 write_check-requires-in-Three-clause-size g c =
-    (formed_set c.args.self.now.replaced c.args.self.now.version c.in-Three.first c.in-Three.second c.in-Three.third
-    (subst (λ k. IsWellFormed (PutKey c.args.self.now.replaced c.args.self.now.version k)) c.in-Three.is c.requires.formed)).enc_lengths.check
+    (set_of c.args.self.now c.in-Three.first c.in-Three.second c.in-Three.third c.in-Three.is c.requires.formed).enc_lengths.check
 
 pub write_check-requires-in-Three-2-clause-size : goal.write_check-requires-in-Three-2-clause-size
 write_check-requires-in-Three-2-clause-size g c =
-    (formed_set c.args.self.now.replaced c.args.self.now.version c.in-Three.first c.in-Three.second c.in-Three.third
-    (subst (λ k. IsWellFormed (PutKey c.args.self.now.replaced c.args.self.now.version k)) c.in-Three.is c.requires.formed)).mac_lengths.check
+    (set_of c.args.self.now c.in-Three.first c.in-Three.second c.in-Three.third c.in-Three.is c.requires.formed).mac_lengths.check
 
 pub write_check-requires-in-Three-3-clause-size : goal.write_check-requires-in-Three-3-clause-size
 write_check-requires-in-Three-3-clause-size g c =
-    (formed_set c.args.self.now.replaced c.args.self.now.version c.in-Three.first c.in-Three.second c.in-Three.third
-    (subst (λ k. IsWellFormed (PutKey c.args.self.now.replaced c.args.self.now.version k)) c.in-Three.is c.requires.formed)).dek_lengths.check
+    (set_of c.args.self.now c.in-Three.first c.in-Three.second c.in-Three.third c.in-Three.is c.requires.formed).dek_lengths.check
 
 pub place_set-requires-clause-lengths : goal.place_set-requires-clause-lengths
 place_set-requires-clause-lengths g c =
-    let form = formed_set c.args.self.now.replaced c.args.self.now.version c.in-Three.first c.in-Three.second c.in-Three.third
-    (subst (λ k. IsWellFormed (PutKey c.args.self.now.replaced c.args.self.now.version k)) c.in-Three.is c.requires.formed) in
+    let form = set_of c.args.self.now c.in-Three.first c.in-Three.second c.in-Three.third c.in-Three.is c.requires.formed in
     let enc = ap length c.deref-in-Three.ensures.0 ∙ c.open_key-enc.ensures.length in (
       subst IsKeyLength (sym enc) form.enc_lengths.size,
       ap length c.deref-in-Three-2.ensures.0 ∙ c.open_key-mac.ensures.length ∙ form.mac_size ∙ sym enc,
@@ -148,7 +151,7 @@ returns-in_ok-judge_put_keys-in-One g c =
     let same = c.place_one.ensures.same_else in
     let sent = c.in-One.sent in
     let key = c.open_key-key.result.bytes.items in
-    let form = formed_one put.replaced put.version sent (subst (λ k. IsWellFormed (PutKey put.replaced put.version k)) c.in-One.is c.requires.formed) in
+    let form = one_of put sent c.in-One.is c.requires.formed in
     let judged = judged_by c.args.acting.now.domain put.replaced put.version c.tables.result.now c.tables-in-One.result.now before put.keys.now (One sent) c.tables.ensures.tables c.tables-in-One.ensures.tables c.in-One.is
     c.in_ok-judge_put_versions.ensures.known c.in_ok-judge_put_versions.ensures.free (c.in_ok-judge_put_keys-in-One.ensures.roomy put.version) in
     let puts = puts_lent c.args.acting.now.domain put.replaced put.version before.keys.items after.keys.items (c.deref.result.now ∷ []) (key ∷ []) (λ i. c.deref.ensures.0 i ∷ []) c.place_one.ensures.put in
@@ -188,7 +191,7 @@ returns-in_ok-judge_put_keys-in-Three g c =
     let kek = c.open_key-kek in
     let keys = Three one two three in
     let bytes = enc.result.bytes.items ∷ mac.result.bytes.items ∷ kek.result.bytes.items ∷ [] in
-    let form = formed_set put.replaced put.version one two three (subst (λ k. IsWellFormed (PutKey put.replaced put.version k)) c.in-Three.is c.requires.formed) in
+    let form = set_of put one two three c.in-Three.is c.requires.formed in
     let judged = judged_by c.args.acting.now.domain put.replaced put.version c.tables.result.now c.tables-in-Three.result.now before put.keys.now keys c.tables.ensures.tables c.tables-in-Three.ensures.tables c.in-Three.is
     c.in_ok-judge_put_versions.ensures.known c.in_ok-judge_put_versions.ensures.free (c.in_ok-judge_put_keys-in-Three.ensures.roomy put.version) in
     let puts = puts_lent c.args.acting.now.domain put.replaced put.version before.keys.items after.keys.items (c.deref-in-Three.result.now ∷ c.deref-in-Three-2.result.now ∷ c.deref-in-Three-3.result.now ∷ []) bytes

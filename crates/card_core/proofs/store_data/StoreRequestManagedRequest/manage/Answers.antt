@@ -71,26 +71,22 @@ loop-element-init g c = record {
   );
 }
 
-pub put_object-requires-clause-size : goal.put_object-requires-clause-size
-put_object-requires-clause-size g c =
-    let element = c.in-Ok.element in
+pub put_object-requires : goal.put_object-requires
+put_object-requires g c =
+    let element : Element = record { tag = c.in-Ok.element.tag; value = c.in-Ok.element.value.now } in
     let formed = c.requires.formed in
     let elements = objects_of c.args.self.now.objects.now formed.0 formed.1.means formed.1.form.2 in
     let behind = c.loop-element.invariant.put elements.0 elements.1 elements.2.each in
-    let next = elements_behind behind.0 element.tag element.value.now c.in-Ok.after.now c.loop-element.rest.now behind.1 c.in-Ok.ensures.found in
-    let P = λ (e : Element). IsObject e.tag (length e.value) in
-    at_most element.tag (length element.value.now) (All-head P (record { tag = element.tag; value = element.value.now }) next.0 (subst (All P) next.1 behind.2.forms))
-
-pub put_object-requires-clause-room : goal.put_object-requires-clause-room
-put_object-requires-clause-room g c =
-    let element = c.in-Ok.element in
-    let formed = c.requires.formed in
-    let elements = objects_of c.args.self.now.objects.now formed.0 formed.1.means formed.1.form.2 in
-    let behind = c.loop-element.invariant.put elements.0 elements.1 elements.2.each in
-    let next = elements_behind behind.0 element.tag element.value.now c.in-Ok.after.now c.loop-element.rest.now behind.1 c.in-Ok.ensures.found in
+    let next = elements_behind behind.0 element.tag element.value c.in-Ok.after.now c.loop-element.rest.now behind.1 c.in-Ok.ensures.found in
     let slots = c.loop-element.records.tables.objects.items in
-    room_first slots c.args.acting.now.domain (record { tag = element.tag; value = element.value.now }) next.0
-    (subst (λ (es : List Element). length (used slots) + new_tags (has_object_in slots c.args.acting.now.domain) es ≤ OBJECTS) next.1 behind.2.room)
+    let P = λ (e : Element). IsObject e.tag (length e.value) in
+    record {
+      live = c.loop-element.invariant.live;
+      frames = c.loop-element.invariant.frames;
+      size = at_most element.tag (length element.value) (All-head P element next.0 (subst (All P) next.1 behind.2.forms));
+      room = room_first slots c.args.acting.now.domain element next.0
+          (subst (λ (es : List Element). length (used slots) + new_tags (has_object_in slots c.args.acting.now.domain) es ≤ OBJECTS) next.1 behind.2.room);
+    }
 
 pub loop-element-preserved : goal.loop-element-preserved
 loop-element-preserved g c =
