@@ -11,10 +11,12 @@ use Rattle.card_types.specs.declared.found.Found.{Found}
 use Rattle.card_types.specs.declared.found.Found.TheVariants as Thing
 use Rattle.card_types.specs.declared.tables.KeyRec.{KeyRec}
 use Rattle.card_types.specs.declared.tables.Tables.{Tables}
+use Rattle.policy_machine.specs.Admission.{Admitted}
 use Rattle.policy_slots.specs.HoldersFound.{MayReceipt}
 use Rattle.policy_slots.specs.declared.live.Live.{Live}
 use Rattle.policy_slots.specs.declared.live.LoadName.{LoadName}
-use Rattle.card_core.proofs.EntryCards.{KeepsNumbers, may_still}
+use Rattle.card_core.proofs.EntryCards.{KeepsNumbers, may_still, receipts_kept}
+use Rattle.card_core.specs.Confirms.{KeepsConfirmer}
 use Rattle.card_core.specs.Manages.{KeepsAid, KeepsAids, KeepsSelected}
 use Rattle.rec_store.specs.Keeper.{key_pages}
 use Rattle.rec_store.specs.Places.{file_page}
@@ -58,11 +60,14 @@ aids_on a b c first then slot entry at =
     let other = then slot one.0 one.1 in
     (other.0, other.1, other.2 ∙ one.2)
 
--- who confirms a command may still make a receipt where what it is made from is as it was
-pub still_able : (before after : Tables) → KeepsNumbers before after → (receipter : Option ℕ) → IfSome receipter (MayReceipt before) → IfSome receipter (MayReceipt after)
-still_able before after keeps None able = able
-still_able before after keeps (Some slot) able =
-    may_still before after slot (keeps.entries slot) (λ place. subst (λ (keys : List (Option KeyRec)). HasKey keys slot 0x71 1 place) (sym keeps.keys)) able
+-- who confirms a command still can where entries alone are others, and keep their AIDs and receipt numbers
+pub numbers_confirmer : (before after : Tables) (admitted : Admitted) → KeepsNumbers before after → KeepsConfirmer before after admitted
+numbers_confirmer before after admitted keeps receipter finds = (receipts_kept before after keeps receipter, by receipter)
+  where
+    by : (receipter : Option ℕ) → IfSome receipter (MayReceipt before) → IfSome receipter (MayReceipt after)
+    by None able = able
+    by (Some slot) able =
+        may_still before after slot (keeps.entries slot) (λ place. subst (λ (keys : List (Option KeyRec)). HasKey keys slot 0x71 1 place) (sym keeps.keys)) able
 
 -- with nothing staged there is room for the pages of entries, and then for them again
 pub entry_room : (staged : List ℕ) → staged ≡ [] → HasRoomFor entry_pages staged

@@ -1,6 +1,7 @@
 pub mod Acting
 pub mod Admitting
 pub mod Answered
+pub mod Becoming
 pub mod CardLifeSet
 pub mod Cards
 pub mod Carrying
@@ -13,7 +14,6 @@ pub mod Deleting
 pub mod EntryCards
 pub mod FileCards
 pub mod FreePages
-pub mod Installing
 pub mod KeySent
 pub mod KeysSaid
 pub mod Listing

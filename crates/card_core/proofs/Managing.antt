@@ -1,5 +1,5 @@
 -- What comes of a command of card content management.
-use Rattle.std.proofs.Common.{◌≡◌, ℕ, List, [], None, Option, Some, Result, Ok, Err, refl, sym, subst}
+use Rattle.std.proofs.Common.{◌≡◌, ◌↔◌, ℕ, inl, inr, Bool, List, [], None, Option, Some, Result, Ok, Err, refl, sym, subst}
 use Rattle.std.specs.Result.{IsErrAnd}
 use Rattle.apdu_core.specs.declared.reply.Status.{Status}
 use Rattle.card_types.specs.Registry.{Registry}
@@ -10,15 +10,16 @@ use Rattle.policy_machine.proofs.ManagedLawful.{replied}
 use Rattle.policy_machine.specs.Admission.{Admitted}
 use Rattle.policy_machine.specs.CommandForm.{CommandForm}
 use Rattle.policy_machine.specs.Commands.{Judges, TakesCommand}
-use Rattle.policy_machine.specs.Delegation.{IsAnswered, unconfirmed}
+use Rattle.policy_machine.specs.Delegation.{IsAnswered}
 use Rattle.policy_machine.specs.ExternalAuthenticate.{rules_before_form}
 use Rattle.policy_machine.specs.Refusal.{IsFirst}
-use Rattle.policy_machine.specs.ManagedForm.{CommandAsks, ManagedForm, command_form}
+use Rattle.policy_machine.specs.ManagedForm.{CommandAsks, JudgedFirst, JudgedForm, ManagedForm, command_form}
 use Rattle.policy_machine.specs.declared.rule.Rule.{Rule}
 use Rattle.policy_slots.specs.StateShown.{ActsIn}
 use Rattle.policy_slots.specs.HoldersFound.{FindsConfirmer}
 use Rattle.card_core.proofs.Cards.{in_order}
 use Rattle.card_core.proofs.Confirming.{answered_so, finds_receipter}
+use Rattle.card_core.specs.ConfirmedForms.{BecomesAsAsked, IsOfForm}
 use Rattle.card_core.specs.Confirms.{AnswersFor, Confirms, KeepsReceipts, leaves}
 use Rattle.card_core.specs.Kept.{AreCards}
 use Rattle.card_core.specs.Manages.{IsManaged, Manages}
@@ -52,39 +53,46 @@ module _ (form : ManagedForm) (listed : IsListed (command_form form)) (admitted 
     status_is = word;
   }
 
-  -- one that may be confirmed has changed the registry, and is answered by a receipt or by 00
-  pub confirmed_managed : form.reply asked ≡ unconfirmed → rules_before_form form.judged.instruction ≡ [] → IsFirst ((command_form form).fails admitted) (command_form form).rules None
-      → (page : ℕ → List ℕ) (before mid after : Tables) (domain : ℕ) → AreCards before → ActsIn page before domain admitted
-      → (receipter : Option ℕ) → FindsConfirmer (form.judged.delegation.is_delegated admitted) before admitted receipter → KeepsReceipts before mid receipter → Represents page mid changed
-      → (aids : List (List ℕ)) → aids ≡ form.judged.delegation.about admitted asked → (body : List ℕ) → Confirms mid after receipter aids body
-      → (status : Status) → status.0 ≡ 0x9000 → IsManaged admitted page after body status
-  confirmed_managed reply none first page before mid after domain cards acts receipter finds keeps says aids about body confirms status word =
-      let delegated = form.judged.delegation.is_delegated admitted in
-      let named = form.judged.delegation.about admitted asked in
-      let answers = confirms page admitted before domain changed (record {
-        acts = acts;
-        issuer = (in_order before cards).layout.issuer;
-        finds = finds_receipter delegated before admitted receipter finds;
-        keeps = keeps;
-        says = says;
-      }) in
-      let told = subst (λ (names : List (List ℕ)). AnswersFor page after receipter admitted names changed body) about answers in
-      let left = leaves admitted told.0 body in
-      let answered = answered_so delegated before admitted receipter finds named changed left told.2 in
-      record {
-        judges = judged (command_form form) listed admitted takes none None first;
-        done = left;
-        does = does_so (command_form form) listed admitted takes left (record {
-          asked = asked;
-          asks = asks;
-          changed = changed;
-          becomes = becomes;
-          answered = subst (λ (bytes : List ℕ). IsAnswered delegated admitted named changed bytes left) (sym reply) answered;
-          volatile = refl;
-          status = refl;
-        });
+-- who confirms is the same where a command is delegated as well
+confirmer_for : {A B : Type 0} → (A ↔ B) → (tables : Tables) (admitted : Admitted) (receipter : Option ℕ) → FindsConfirmer B tables admitted receipter
+    → FindsConfirmer A tables admitted receipter
+confirmer_for same tables admitted receipter (inl (holds, found)) = inl (same.1 holds, found)
+confirmer_for same tables admitted receipter (inr (lacks, none)) = inr (λ holds. lacks (same.0 holds), none)
+
+-- a command that may be confirmed has changed the registry, and is answered by a receipt or by 00
+pub confirmed_managed : (form : ManagedForm) (rules : JudgedForm) (admitted : Admitted) → (receipted : Bool) → IsOfForm form rules receipted admitted → JudgedFirst rules admitted None
+    → (page : ℕ → List ℕ) (before mid after : Tables) (domain : ℕ) → AreCards before → ActsIn page before domain admitted
+    → (receipter : Option ℕ) → FindsConfirmer (rules.delegation.is_delegated admitted) before admitted receipter → KeepsReceipts before mid receipter
+    → (aids : List (List ℕ)) → BecomesAsAsked form admitted page mid aids → (body : List ℕ) → Confirms mid after receipter aids body
+    → (status : Status) → status.0 ≡ 0x9000 → IsManaged admitted page after body status
+confirmed_managed form rules admitted receipted is first page before mid after domain cards acts receipter finds keeps aids becomes body confirms status word =
+    let delegated = form.judged.delegation.is_delegated admitted in
+    let named = form.judged.delegation.about admitted becomes.asked in
+    let confirmer = confirmer_for is.delegated before admitted receipter finds in
+    let answers = confirms page admitted before domain becomes.changed (record {
+      acts = acts;
+      issuer = (in_order before cards).layout.issuer;
+      finds = finds_receipter delegated before admitted receipter confirmer;
+      keeps = keeps;
+      says = becomes.says;
+    }) in
+    let told = subst (λ (names : List (List ℕ)). AnswersFor page after receipter admitted names becomes.changed body) becomes.about answers in
+    let left = leaves admitted told.0 body in
+    let answered = answered_so delegated before admitted receipter confirmer named becomes.changed left told.2 in
+    record {
+      judges = is.judges None first;
+      done = left;
+      does = is.does left (record {
+        asked = becomes.asked;
+        asks = becomes.asks;
+        changed = becomes.changed;
+        becomes = becomes.becomes;
+        answered = subst (λ (bytes : List ℕ). IsAnswered delegated admitted named becomes.changed bytes left) (sym (is.reply becomes.asked)) answered;
         volatile = refl;
-        says = told.1;
-        body_is = refl;
-        status_is = word;
-      }
+        status = refl;
+      });
+      volatile = refl;
+      says = told.1;
+      body_is = refl;
+      status_is = word;
+    }

@@ -42,19 +42,15 @@ use Rattle.card_core.specs.Deletes.{LeavesOthers, LeavesOwned, RemovesLoaded}
 use Rattle.card_core.specs.Kept.{AreCards}
 
 -- what a thing's slot holds
+thing_there : {T : Type 0} (name : T → List ℕ) (slot : Option T) → IsSome (option_map name slot) → (thing : T) × (slot ≡ Some thing)
+thing_there name None some = cc
+thing_there name (Some thing) some = (thing, refl)
+
 pub entry_there : (tables : Tables) (slot : ℕ) → IsSome (aid_of tables (Thing.Entry slot)) → (entry : Entry) × (held tables.entries.items slot ≡ Some entry)
-entry_there tables slot some = by (held tables.entries.items slot) refl some
-  where
-    by : (o : Option Entry) → held tables.entries.items slot ≡ o → IsSome (option_map (λ (e : Entry). e.aid) o) → (entry : Entry) × (held tables.entries.items slot ≡ Some entry)
-    by None at some = cc
-    by (Some entry) at some = (entry, at)
+entry_there tables slot = thing_there (λ (e : Entry). e.aid) (held tables.entries.items slot)
 
 pub file_there : (tables : Tables) (slot : ℕ) → IsSome (aid_of tables (Thing.File slot)) → (file : LoadFile) × (held tables.files.items slot ≡ Some file)
-file_there tables slot some = by (held tables.files.items slot) refl some
-  where
-    by : (o : Option LoadFile) → held tables.files.items slot ≡ o → IsSome (option_map (λ (f : LoadFile). f.aid) o) → (file : LoadFile) × (held tables.files.items slot ≡ Some file)
-    by None at some = cc
-    by (Some file) at some = (file, at)
+file_there tables slot = thing_there (λ (f : LoadFile). f.aid) (held tables.files.items slot)
 
 -- what is said of a thing that is to go, by the slots of entries and of Executable Load Files
 pub no_domain : (tables : Tables) (related : Bool) (slot : ℕ) → IsAlone tables related (Thing.Entry slot) → IsNoDomain tables slot

@@ -25,6 +25,7 @@ use Rattle.policy_rules.specs.declared.entry_status.StatusChange.TheVariants.{On
 use Rattle.rec_store.specs.Places.{entry_page}
 use Rattle.registry.specs.Pages.{StagesChanged}
 use Rattle.registry.specs.Tree.{IsInTree, LocksTree, with_lock}
+use Rattle.card_core.proofs.Becoming.{named_there}
 use Rattle.card_core.proofs.Cards.{in_order}
 use Rattle.card_core.proofs.EntryCards.{changing_aids, entries_cards, entry_cards}
 use Rattle.card_core.specs.Kept.{AreCards}
@@ -121,11 +122,7 @@ changed_cards before after (Tree domain locked) made keeps each cards =
 
 -- a slot with an AID is used
 pub used_by_name : (slots : List (Option Entry)) (slot : ℕ) (aid : List ℕ) → option_map (λ (entry : Entry). entry.aid) (held slots slot) ≡ Some aid → IsSome (held slots slot)
-used_by_name slots slot aid named = by (held slots slot) named
-  where
-    by : (o : Option Entry) → option_map (λ (entry : Entry). entry.aid) o ≡ Some aid → IsSome o
-    by None named = cc
-    by (Some entry) named = refl
+used_by_name slots slot aid = named_there (λ (entry : Entry). entry.aid) (held slots slot) aid
 
 -- with nothing staged before, the pages of entries that are others alone are staged
 pub tree_staged : (before after : Tables) (old new : List ℕ) → old ≡ [] → StagesChanged entry_page before.entries.items after.entries.items old new

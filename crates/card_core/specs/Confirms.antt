@@ -15,8 +15,13 @@ use Rattle.policy_machine.specs.Delegation.{IsConfirmed, IsUnconfirmed, unconfir
 use Rattle.policy_slots.specs.ObjectsHeld.{is_tagged_in}
 use Rattle.policy_machine.specs.State.{Effect}
 use Rattle.policy_slots.specs.StateShown.{ActsIn}
-use Rattle.policy_slots.specs.HoldersFound.{IsReceipterIn}
-use Rattle.tokens_receipts.specs.Receipt.{receipt}
+use Rattle.policy_slots.specs.HoldersFound.{IsReceipterIn, MayReceipt}
+use Rattle.tokens_receipts.specs.Receipt.{aids_of, receipt}
+use Rattle.card_core.specs.declared.confirm.Aids.{Aids}
+
+-- the AIDs, in their order
+abbrev pub aids_in : Aids → List (List ℕ)
+aids_in aids = aids_of aids.first aids.second aids.third
 
 -- the slot holds an entry with the AID and the receipt number that it had
 abbrev pub KeepsNumber : Tables → Tables → ℕ → Type 0
@@ -31,6 +36,12 @@ pub record KeepsReceipts (before after : Tables) (receipter : Option ℕ) : Type
   pub keys : (slot : ℕ) (key : KeyRec) → held after.keys.items slot ≡ Some key → held before.keys.items slot ≡ Some key
   pub objects : (slot : ℕ) (object : Object) → object.owner ≡ ISSUER_SLOT
       → (held after.objects.items slot ≡ Some object ↔ held before.objects.items slot ≡ Some object)
+
+-- who confirms the command does so from what was there before a change, and may still make a receipt
+abbrev pub KeepsConfirmer : Tables → Tables → Admitted → Type 0
+KeepsConfirmer before after admitted =
+    (receipter : Option ℕ) → IfSome receipter (IsReceipterIn before admitted)
+    → KeepsReceipts before after receipter × (IfSome receipter (MayReceipt before) → IfSome receipter (MayReceipt after))
 
 -- A command of the domain in a slot has changed the registry to this one, and the domain in the other slot confirms it, or nobody.
 pub record HasChanged (page : ℕ → List ℕ) (before after : Tables) (domain : ℕ) (receipter : Option ℕ) (admitted : Admitted) (changed : Registry) : Type 0 where

@@ -1,6 +1,7 @@
 pub mod AesKinds
 pub mod Card
 pub mod Commits
+pub mod ConfirmedForms
 pub mod Confirms
 pub mod Deletes
 pub mod Domains

@@ -1,15 +1,19 @@
 -- For the code inside. What comes of a command of card content management: the registry changes, and nothing of what the channels
 -- hold.
-use Rattle.std.specs.Prelude.{◌≡◌, ℕ, ◌<◌, List, [], Option, Result, Ok, Err, None, Some, IfSome}
+use Rattle.std.specs.Prelude.{◌≡◌, ℕ, ◌<◌, ◌==◌, List, [], Option, Result, Ok, Err, None, Some, IfSome, true}
+use Rattle.std.specs.List.{list_any}
 use Rattle.apdu_core.specs.declared.reply.Status.{Status}
 use Rattle.card_types.specs.Represents.{Represents, held}
 use Rattle.card_types.specs.declared.tables.Entry.{Entry}
 use Rattle.card_types.specs.declared.tables.Tables.{Tables}
 use Rattle.policy_machine.specs.Admission.{Admitted}
+use Rattle.policy_machine.specs.Classes.{changing}
 use Rattle.policy_machine.specs.Commands.{HasEffect, Judges}
 use Rattle.policy_machine.specs.State.{Effect}
 use Rattle.policy_machine.specs.declared.channels.TheConstants.{CHANNELS}
 use Rattle.policy_machine.specs.declared.rule.Rule.{Rule}
+use Rattle.policy_rules.specs.Requests.{form_in}
+use Rattle.policy_rules.specs.declared.request.Request.{Request}
 use Rattle.policy_slots.specs.declared.live.Live.{Live}
 use Rattle.rec_store.specs.Reopens.{IsFree}
 
@@ -44,3 +48,7 @@ pub record IsManaged (admitted : Admitted) (page : ℕ → List ℕ) (tables : T
 abbrev pub Manages : Admitted → (ℕ → List ℕ) → Tables → Tables → List ℕ → Result Status Rule → Type 0
 Manages admitted page tables tables' body (Ok status) = IsManaged admitted page tables' body status
 Manages admitted page tables tables' body (Err rule) = Judges admitted (Some rule) × (tables' ≡ tables) × (body ≡ [])
+
+-- its instruction is one that changes the registry
+abbrev pub IsChanging : Request → Type 0
+IsChanging request = list_any (λ byte. (form_in request).instruction == byte) changing ≡ true

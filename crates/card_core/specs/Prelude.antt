@@ -1,5 +1,5 @@
 -- The names that the contracts here cite, passed on from one place. Declares nothing.
-pub use Rattle.apdu_core.specs.Apdu.{Short, apdu_of}
+pub use Rattle.apdu_core.specs.Apdu.{Apdu, Short, apdu_of}
 pub use Rattle.apdu_core.specs.Reply.{status_bytes}
 pub use Rattle.arrayvec.specs.ArrayVec.{array_vec_len}
 pub use Rattle.bertlv.specs.Spelling.{AreElements, Element, Spelling}
@@ -7,16 +7,18 @@ pub use Rattle.bertlv.specs.Tag.{IsTag}
 pub use Rattle.card_check.specs.IsCard.{HasPages, IsInLoadPages, pages_named}
 pub use Rattle.card_core.specs.Card.{Answers, CardRepresents, LeavesEither}
 pub use Rattle.card_core.specs.Commits.{MayCommit}
-pub use Rattle.card_core.specs.Confirms.{Confirms, IsReceiptIn, IsUniqueIn, IsValueIn}
+pub use Rattle.card_core.specs.ConfirmedForms.{BecomesAsAsked, IsOfForm, of_form}
+pub use Rattle.card_core.specs.Confirms.{Confirms, IsReceiptIn, IsUniqueIn, IsValueIn, KeepsConfirmer, aids_in}
 pub use Rattle.card_core.specs.Deletes.{LeavesOthers, RemovesLoaded}
 pub use Rattle.card_core.specs.Domains.{ForEntry, is_domain_in}
+pub use Rattle.card_core.specs.Installs.{slot_made}
 pub use Rattle.card_core.specs.Kept.{AreCards, ForShown, IsInSession, IsOffered, RepresentsSecureChannel, RepresentsSoundly, held_on, held_passed, kept_of, without_offer_held}
 pub use Rattle.card_core.specs.Lists.{Lists}
 pub use Rattle.card_core.specs.LoadRead.{IsLoadRead}
 pub use Rattle.card_core.specs.LoadedFile.{AddsLoaded}
 pub use Rattle.card_core.specs.Loading.{AreFree, RepresentsAll, RepresentsSome, with_due}
 pub use Rattle.card_core.specs.Loads.{ForBlock, ForLoading, HoldsLoad, LoadsAs, block_in, block_rule}
-pub use Rattle.card_core.specs.Manages.{KeepsAids, KeepsFree, KeepsSelected, Manages}
+pub use Rattle.card_core.specs.Manages.{IsChanging, KeepsAids, KeepsFree, KeepsSelected, Manages}
 pub use Rattle.card_core.specs.ObjectsPut.{IsSlotFor, PutsObject, object_with}
 pub use Rattle.card_core.specs.Offers.{AnswersAs, HoldsFor, OffersAs}
 pub use Rattle.card_core.specs.Passes.{Bars, ForCome, IsOpenedIn, Passes, plain_of}
@@ -52,12 +54,15 @@ pub use Rattle.policy_machine.specs.Changes.{Changes, OpensInSession}
 pub use Rattle.policy_machine.specs.Classes.{IsKnown, changing, class_of, managing}
 pub use Rattle.policy_machine.specs.Commands.{IsBuilt, Judges}
 pub use Rattle.policy_machine.specs.Delegation.{Holds}
-pub use Rattle.policy_machine.specs.DeleteObject.{without_thing}
+pub use Rattle.policy_machine.specs.DeleteObject.{managed_delete_object, without_thing}
+pub use Rattle.policy_machine.specs.Extradition.{managed_extradition}
 pub use Rattle.policy_machine.specs.GetData.{HasData, IsDataObject, IsKeyInformation}
 pub use Rattle.policy_machine.specs.GetStatus.{AFile, AnEntry, IsTemplate, Thing, module_parts, status_parts}
 pub use Rattle.policy_machine.specs.InitializeUpdate.{diversification_of, offer_body}
+pub use Rattle.policy_machine.specs.InstallApplication.{managed_install}
 pub use Rattle.policy_machine.specs.Load.{LoadFails, load_rules}
-pub use Rattle.policy_machine.specs.ManagedForm.{JudgedFirst}
+pub use Rattle.policy_machine.specs.ManagedForm.{JudgedFirst, ManagedForm}
+pub use Rattle.policy_machine.specs.MakeSelectable.{managed_selectable}
 pub use Rattle.policy_machine.specs.PutKey.{IsKeySent, check_value, sealed_size}
 pub use Rattle.policy_machine.specs.Receipts.{CountsReceipts}
 pub use Rattle.policy_machine.specs.Refusal.{IsFirst}

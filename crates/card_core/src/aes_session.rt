@@ -7,10 +7,9 @@ ghost use Rattle.scp03_card.specs.declared.close.TheConstants.{DATA_LIMIT};
 
 use crate::aes_kind::AesKind;
 use crate::opened_key::{OpenedKey, open_key};
-use crate::reply::REPLY_LIMIT;
+use crate::reply::Reply;
 use aes_block::{Aes128, Aes192, Aes256};
 use apdu_core::{Command, Status};
-use arrayvec::ArrayVec;
 use policy_rules::SealedKey;
 use scp03_card::{OpenRefusal, Session};
 use std::marker::Model;
@@ -60,7 +59,7 @@ impl AesSession {
     }
 
     /// Makes the whole reply to the command that was opened last, as `Session::close_reply` does.
-    pub fn close_reply(&mut self, reply: &mut ArrayVec<u8, REPLY_LIMIT>, status: Status)
+    pub fn close_reply(&mut self, reply: &mut Reply, status: Status)
         requires { array_vec_len reply.old ≤ DATA_LIMIT }
         ensures protected { (session : model.Session) → RepresentsSession self.old session → reply.new.items ≡ protected session reply.old.items status.0 }
         ensures unchanged { self.new ≡ self.old }

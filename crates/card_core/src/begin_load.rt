@@ -6,12 +6,12 @@ ghost use Rattle.policy_rules.specs.declared.request.Request.TheVariants.{Instal
 ghost use Rattle.scp03_card.specs.declared.close.TheConstants.{DATA_LIMIT};
 
 use crate::loading::Loading;
-use crate::reply::REPLY_LIMIT;
+use crate::reply::{Answer, Reply};
 use apdu_core::Status;
 use arrayvec::ArrayVec;
 use card_types::Tables;
 use load_session::LoadSession;
-use policy_rules::{Live, LoadInstallRequest, LoadName, Rule, judge_request};
+use policy_rules::{Live, LoadInstallRequest, LoadName, judge_request};
 
 /// Begins the load session that a request asks for, for the domain in a slot, on the command's channel. Nothing is written yet.
 #[inline(never)]
@@ -22,8 +22,8 @@ pub fn begin_load(
     channel: u8,
     domain: u8,
     request: &LoadInstallRequest<'_>,
-    reply: &mut ArrayVec<u8, REPLY_LIMIT>,
-) -> Result<Status, Rule>
+    reply: &mut Reply,
+) -> Answer
     requires in_order { IsInOrder tables.now }
     requires formed { IsWellFormed (InstallLoad request.now) }
     requires empty { reply.old.items ≡ [] }

@@ -2,12 +2,11 @@
 //! Card Specification 2.3.1, 9.1.3.4, 11.1.6 and C.5).
 
 ghost use Rattle.std.specs.Prelude.{◌≡◌, ◌⊎◌, ◌≤◌, ◌+◌, ◌++◌, ℕ, List, [], IfSome, length, true};
-ghost use Rattle.std.specs.Option.{option_copied};
-ghost use Rattle.card_core.specs.Prelude.{AreCards, Confirms, HasKey, HasRoomFor, IsInOrder, IsKeyLength, IsReceiptIn, IsUniqueIn, IsValueIn, KeepsAids, MayReceipt, aids_of, entry_pages};
+ghost use Rattle.card_core.specs.Prelude.{AreCards, Confirms, HasKey, HasRoomFor, IsInOrder, IsKeyLength, IsReceiptIn, IsUniqueIn, IsValueIn, KeepsAids, MayReceipt, aids_in, aids_of, entry_pages};
 ghost use Rattle.tokens_receipts.specs.Receipt.{receipt as receipt_of};
 ghost use Rattle.scp03_card.specs.declared.close.TheConstants.{DATA_LIMIT};
 
-use crate::reply::REPLY_LIMIT;
+use crate::reply::Reply;
 use crate::store_data::Tagged;
 use aes_block::{BlockKey, SealingAes128, SealingAes192, SealingAes256};
 use arrayvec::ArrayVec;
@@ -20,23 +19,40 @@ use tokens_receipts::receipt;
 /// The key version number of a receipt key.
 const RECEIPT_KEY: u8 = 0x71;
 
-/// Answers a command that was about these AIDs, in their order. The domain in the slot `receipter` confirms it by a receipt, and
+/// The AIDs that a command was about, in the order in which its receipt names them.
+#[derive(Clone, Copy)]
+pub struct Aids {
+    first: Aid,
+    second: Option<Aid>,
+    third: Option<Aid>,
+}
+
+impl Aids {
+    pub fn new(first: Aid, second: Option<Aid>, third: Option<Aid>) -> Aids
+        ensures { aids_in result ≡ aids_of first second third }
+    {
+        Aids {
+            first,
+            second,
+            third,
+        }
+    }
+}
+
+/// Answers a command that was about these AIDs. The domain in the slot `receipter` confirms it by a receipt, and
 /// the number of its last receipt is one higher then; where nobody does, the reply is 00. It commits nothing.
 pub fn confirm<F: Flash>(
     records: &mut Records<F>,
     receipter: Option<u8>,
-    first: &Aid,
-    second: Option<&Aid>,
-    third: Option<&Aid>,
-    reply: &mut ArrayVec<u8, REPLY_LIMIT>,
+    about: &Aids,
+    reply: &mut Reply,
 )
     requires live { records.old.live ≡ true }
     requires frames { HasRoomFor entry_pages records.old.staged }
     requires cards { AreCards records.old.tables }
     requires able { IfSome receipter (MayReceipt records.old.tables) }
     requires empty { reply.old.items ≡ [] }
-    ensures answered { Confirms records.old.tables records.new.tables receipter (aids_of first.now (option_copied second.entry) (option_copied third.entry))
-        reply.new.items }
+    ensures answered { Confirms records.old.tables records.new.tables receipter (aids_in about.now) reply.new.items }
     ensures aids { KeepsAids records.old.tables.entries.items records.new.tables.entries.items }
     ensures files { records.new.tables.files.items ≡ records.old.tables.files.items }
     ensures cards { AreCards records.new.tables }
@@ -48,7 +64,7 @@ pub fn confirm<F: Flash>(
         return;
     };
     let number = in_slot(&records.tables().entries, slot).unwrap().receipts + 1;
-    write_receipt(records.tables(), slot, number, first, second, third, reply);
+    write_receipt(records.tables(), slot, number, about, reply);
     set_receipts(records, slot, number);
 }
 
@@ -85,59 +101,42 @@ fn receipt_under<K: BlockKey>(
     key: &KeyRec,
     number: u16,
     unique: &[u8],
-    first: &Aid,
-    second: Option<&Aid>,
-    third: Option<&Aid>,
+    about: &Aids,
     out: &mut ArrayVec<u8, 48>,
 )
     requires length { length key.now.bytes.items ≡ K.LEN }
     requires short { length unique.now ≤ 20 }
-    ensures { out.new.items ≡ receipt_of key.now.bytes.items number unique.now (aids_of first.now (option_copied second.entry) (option_copied third.entry)) }
+    ensures { out.new.items ≡ receipt_of key.now.bytes.items number unique.now (aids_in about.now) }
 {
     let key = K::from_key(&key.bytes);
-    receipt(&key, number, unique, first, second, third, out);
+    let (second, third) = (about.second.as_ref(), about.third.as_ref());
+    receipt(&key, number, unique, &about.first, second, third, out);
 }
 
 // Writes the receipt under a key of whichever length.
-fn write_under(
-    key: &KeyRec,
-    number: u16,
-    unique: &[u8],
-    first: &Aid,
-    second: Option<&Aid>,
-    third: Option<&Aid>,
-    out: &mut ArrayVec<u8, 48>,
-)
+fn write_under(key: &KeyRec, number: u16, unique: &[u8], about: &Aids, out: &mut ArrayVec<u8, 48>)
     requires length { IsKeyLength (length key.now.bytes.items) }
     requires short { length unique.now ≤ 20 }
-    ensures { out.new.items ≡ receipt_of key.now.bytes.items number unique.now (aids_of first.now (option_copied second.entry) (option_copied third.entry)) }
+    ensures { out.new.items ≡ receipt_of key.now.bytes.items number unique.now (aids_in about.now) }
 {
     match key.bytes.len() {
-        16 => receipt_under::<SealingAes128>(key, number, unique, first, second, third, out),
-        24 => receipt_under::<SealingAes192>(key, number, unique, first, second, third, out),
-        _ => receipt_under::<SealingAes256>(key, number, unique, first, second, third, out),
+        16 => receipt_under::<SealingAes128>(key, number, unique, about, out),
+        24 => receipt_under::<SealingAes192>(key, number, unique, about, out),
+        _ => receipt_under::<SealingAes256>(key, number, unique, about, out),
     }
 }
 
 // Appends a receipt of the domain in a slot, with this number, on these AIDs.
-fn write_receipt(
-    tables: &Tables,
-    slot: u8,
-    number: u16,
-    first: &Aid,
-    second: Option<&Aid>,
-    third: Option<&Aid>,
-    reply: &mut ArrayVec<u8, REPLY_LIMIT>,
-)
+fn write_receipt(tables: &Tables, slot: u8, number: u16, about: &Aids, reply: &mut Reply)
     requires in_order { IsInOrder tables.now }
     requires key { (place : ℕ) × HasKey tables.now.keys.items slot 0x71 1 place }
     requires empty { reply.old.items ≡ [] }
-    ensures receipt { IsReceiptIn tables.now slot number (aids_of first.now (option_copied second.entry) (option_copied third.entry)) reply.new.items }
+    ensures receipt { IsReceiptIn tables.now slot number (aids_in about.now) reply.new.items }
     ensures size { length reply.new.items ≤ 48 }
 {
     let found = find_key(&tables.keys, slot, RECEIPT_KEY, 1).unwrap();
     let unique = unique_data(tables);
     let mut out = ArrayVec::new();
-    write_under(found.thing, number, &unique, first, second, third, &mut out);
+    write_under(found.thing, number, &unique, about, &mut out);
     reply.try_extend_from_slice(&out).unwrap();
 }

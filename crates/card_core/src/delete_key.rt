@@ -1,16 +1,14 @@
 //! DELETE of a key: the keys of a domain with one key version number go (GlobalPlatform Card Specification 2.3.1, 11.2).
 
-ghost use Rattle.std.specs.Prelude.{◌≡◌};
+ghost use Rattle.std.specs.Prelude.{◌≡◌, refl};
 ghost use Rattle.policy_rules.specs.declared.request.Request.TheVariants.{DeleteKey};
 
-use crate::channel_session::ChannelSession;
-use crate::managed_request::ManagedRequest;
-use crate::reply::REPLY_LIMIT;
+use crate::managed_request::{Acting, ManagedRequest};
+use crate::reply::{Answer, Reply};
 use apdu_core::Status;
-use arrayvec::ArrayVec;
 use flash_core::Flash;
 use key_sets::delete;
-use policy_rules::{Live, Rule, judge_delete_key};
+use policy_rules::judge_delete_key;
 use rec_store::Records;
 
 /// The keys with a key version number, or the one with this key identifier.
@@ -32,21 +30,17 @@ impl DeleteKeyRequest {
     }
 }
 
-impl ManagedRequest for DeleteKeyRequest {
+impl<F: Flash> ManagedRequest<F> for DeleteKeyRequest {
     ghost request = { λ request. DeleteKey request.version request.identifier };
 
     #[inline(never)]
-    fn manage<F: Flash>(
-        &self,
-        records: &mut Records<F>,
-        _live: &Live,
-        _held: &ChannelSession,
-        domain: u8,
-        reply: &mut ArrayVec<u8, REPLY_LIMIT>,
-    ) -> Result<Status, Rule> {
+    fn manage(&self, records: &mut Records<F>, acting: &Acting<'_>, reply: &mut Reply) -> Answer {
+        let domain = acting.domain;
         judge_delete_key(records.tables(), domain, self.version, self.identifier)?;
         delete(records, domain, self.version);
         reply.push(0x00);
         Ok(Status(0x9000))
     }
+
+    ghost changes = { λ these. refl };
 }

@@ -2,20 +2,17 @@
 //! 9.5 and 11.2).
 
 ghost use Rattle.std.specs.Prelude.{◌≡◌, ◌≢◌, ℕ, List, [], true, IsSome, Some};
-ghost use Rattle.card_core.specs.Prelude.{AreCards, HasNoneFrom, HasRoomFor, IsAlone, IsRemovable, KeepsFree, LeavesOthers, Registry, RemovesLoaded, Represents, Well, aid_of, entry_pages, file_aid, held, without_applications, without_file, without_thing};
+ghost use Rattle.std.proofs.Common.{inl, inr, refl};
+ghost use Rattle.card_core.specs.Prelude.{AreCards, HasNoneFrom, HasRoomFor, IsAlone, IsRemovable, KeepsFree, LeavesOthers, Registry, RemovesLoaded, Represents, Well, aid_of, entry_pages, file_aid, held, managed_delete_object, of_form, without_applications, without_file, without_thing};
 ghost use Rattle.card_types.specs.declared.factory.TheConstants.{FACTORY_FILE};
 ghost use Rattle.policy_rules.specs.declared.request.Request.TheVariants.{DeleteObject};
 
-use crate::channel_session::ChannelSession;
-use crate::confirm::confirm;
-use crate::judging::judge;
-use crate::managed_request::ManagedRequest;
-use crate::reply::REPLY_LIMIT;
-use apdu_core::Status;
-use arrayvec::ArrayVec;
+use crate::confirm::Aids;
+use crate::confirmed_request::ConfirmedRequest;
+use crate::managed_request::Acting;
 use card_types::Found;
 use flash_core::Flash;
-use policy_rules::{DeletionRequest, Live, Rule};
+use policy_rules::DeletionRequest;
 use rec_store::Records;
 use registry::{remove_applications, remove_entry, remove_file};
 
@@ -64,21 +61,26 @@ fn remove<F: Flash>(records: &mut Records<F>, thing: Found, related: bool)
     }
 }
 
-impl ManagedRequest for DeletionRequest<'_> {
+impl ConfirmedRequest for DeletionRequest<'_> {
     ghost request = { λ request. DeleteObject request };
 
-    #[inline(never)]
-    fn manage<F: Flash>(
+    ghost managed = { managed_delete_object };
+
+    fn change<F: Flash>(
         &self,
         records: &mut Records<F>,
-        live: &Live,
-        _held: &ChannelSession,
-        domain: u8,
-        reply: &mut ArrayVec<u8, REPLY_LIMIT>,
-    ) -> Result<Status, Rule> {
-        let judged = judge(records, live, domain, self)?;
-        remove(records, judged.found, self.related);
-        confirm(records, judged.receipter, &self.aid, None, None, reply);
-        Ok(Status(0x9000))
+        _acting: &Acting<'_>,
+        thing: Found,
+    ) -> Aids {
+        remove(records, thing, self.related);
+        Aids::new(self.aid, None, None)
     }
+
+    ghost read = { λ these command is. (is.means, is.means.short) };
+
+    ghost shown = { λ page tables live admitted says channels. (says, channels) };
+
+    ghost formed = { λ these admitted is. of_form managed_delete_object (λ held here. inr (inl here)) refl (λ asked. refl) admitted is.form };
+
+    ghost changes = { λ these. refl };
 }

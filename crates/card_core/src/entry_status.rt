@@ -1,17 +1,15 @@
 //! SET STATUS of an application or a security domain: it is locked, unlocked or personalized, a domain also locked or unlocked
 //! with all that is below it (GlobalPlatform Card Specification 2.3.1, 5.3 and 11.10).
 
-ghost use Rattle.std.specs.Prelude.{◌≡◌, ℕ, List, [], true, IsSome};
+ghost use Rattle.std.specs.Prelude.{◌≡◌, ℕ, List, [], true, IsSome, refl};
 ghost use Rattle.card_core.specs.Prelude.{IsFreeOfLoops, IsOther, MakesChange, Registry, Represents, SaysChange, StagesOthers, Well, held, slot_of};
 ghost use Rattle.policy_rules.specs.declared.request.Request.TheVariants.{EntryStatus};
 
-use crate::channel_session::ChannelSession;
-use crate::managed_request::ManagedRequest;
-use crate::reply::REPLY_LIMIT;
+use crate::managed_request::{Acting, ManagedRequest};
+use crate::reply::{Answer, Reply};
 use apdu_core::Status;
-use arrayvec::ArrayVec;
 use flash_core::Flash;
-use policy_rules::{EntryStatusRequest, Live, Rule, StatusChange, judge_entry_status};
+use policy_rules::{EntryStatusRequest, StatusChange, judge_entry_status};
 use rec_store::Records;
 use registry::{lock_tree, set_life};
 
@@ -34,20 +32,15 @@ fn make_change<F: Flash>(records: &mut Records<F>, change: StatusChange)
     }
 }
 
-impl ManagedRequest for EntryStatusRequest {
+impl<F: Flash> ManagedRequest<F> for EntryStatusRequest {
     ghost request = { λ request. EntryStatus request };
 
     #[inline(never)]
-    fn manage<F: Flash>(
-        &self,
-        records: &mut Records<F>,
-        _live: &Live,
-        _held: &ChannelSession,
-        domain: u8,
-        _reply: &mut ArrayVec<u8, REPLY_LIMIT>,
-    ) -> Result<Status, Rule> {
-        let change = judge_entry_status(records.tables(), domain, self)?;
+    fn manage(&self, records: &mut Records<F>, acting: &Acting<'_>, _reply: &mut Reply) -> Answer {
+        let change = judge_entry_status(records.tables(), acting.domain, self)?;
         make_change(records, change);
         Ok(Status(0x9000))
     }
+
+    ghost changes = { λ these. refl };
 }

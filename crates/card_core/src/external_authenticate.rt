@@ -8,6 +8,7 @@ ghost use Rattle.policy_machine.specs.declared.rule.Rule.TheVariants.{EA};
 ghost use Rattle.policy_rules.specs.declared.request.Request.TheVariants.{Authenticate};
 
 use crate::channel_session::ChannelSession;
+use crate::reply::Answer;
 use apdu_core::Status;
 use card_types::Level;
 use policy_rules::{EXTERNAL_AUTHENTICATE, Rule, RuleEA};
@@ -27,11 +28,7 @@ pub fn judge_offer(held: &ChannelSession, ins: u8) -> Result<(), Rule>
 
 /// Makes the offer that the channel holds a session. A refused answer loses the offer.
 #[inline(never)]
-pub fn external_authenticate(
-    held: &mut ChannelSession,
-    level: Level,
-    proof: &[u8],
-) -> Result<Status, Rule>
+pub fn external_authenticate(held: &mut ChannelSession, level: Level, proof: &[u8]) -> Answer
     requires offered { IsOffered held.old }
     requires formed { IsWellFormed (Authenticate level proof) }
     ensures { (admitted : Admitted) → IsRequestOf (Authenticate level proof.entry) admitted.command → HoldsFor held.old admitted

@@ -1,44 +1,39 @@
 //! INSTALL [for extradition]: a thing goes to another security domain (GlobalPlatform Card Specification 2.3.1, 9.4.1 and 11.5).
 
+ghost use Rattle.std.proofs.Common.{inl, inr, refl};
+ghost use Rattle.card_core.specs.Prelude.{managed_extradition, of_form};
 ghost use Rattle.policy_rules.specs.declared.request.Request.TheVariants.{Extradite};
 
-use crate::channel_session::ChannelSession;
-use crate::confirm::confirm;
-use crate::judging::judge;
-use crate::managed_request::ManagedRequest;
-use crate::reply::REPLY_LIMIT;
-use apdu_core::Status;
-use arrayvec::ArrayVec;
+use crate::confirm::Aids;
+use crate::confirmed_request::ConfirmedRequest;
+use crate::managed_request::Acting;
 use card_types::in_slot;
 use flash_core::Flash;
-use policy_rules::{ExtraditionRequest, Live, Rule};
+use policy_rules::{Extradition, ExtraditionRequest};
 use rec_store::Records;
 use registry::move_to;
 
-impl ManagedRequest for ExtraditionRequest<'_> {
+impl ConfirmedRequest for ExtraditionRequest<'_> {
     ghost request = { λ request. Extradite request };
 
-    #[inline(never)]
-    fn manage<F: Flash>(
+    ghost managed = { managed_extradition };
+
+    fn change<F: Flash>(
         &self,
         records: &mut Records<F>,
-        live: &Live,
-        _held: &ChannelSession,
-        domain: u8,
-        reply: &mut ArrayVec<u8, REPLY_LIMIT>,
-    ) -> Result<Status, Rule> {
-        let judged = judge(records, live, domain, self)?;
-        let found = judged.found;
+        _acting: &Acting<'_>,
+        found: Extradition,
+    ) -> Aids {
         let from = in_slot(&records.tables().entries, found.from).unwrap().aid;
         move_to(records, found.thing, found.to);
-        confirm(
-            records,
-            judged.receipter,
-            &from,
-            Some(&self.aid),
-            Some(&self.to),
-            reply,
-        );
-        Ok(Status(0x9000))
+        Aids::new(from, Some(self.aid), Some(self.to))
     }
+
+    ghost read = { λ these command is. (is.means, is.means.short) };
+
+    ghost shown = { λ page tables live admitted says channels. tt };
+
+    ghost formed = { λ these admitted is. of_form managed_extradition (λ holds found. inr (inr (inl found))) refl (λ asked. refl) admitted is.form };
+
+    ghost changes = { λ these. refl };
 }

@@ -5,7 +5,7 @@ ghost use Rattle.card_core.specs.Prelude.{CarriesOutBut, ForEntry, ForShown, Has
 ghost use Rattle.policy_rules.specs.declared.request.Request.TheVariants.{Get};
 ghost use Rattle.scp03_card.specs.declared.close.TheConstants.{DATA_LIMIT};
 
-use crate::reply::REPLY_LIMIT;
+use crate::reply::{Answer, Reply};
 use apdu_core::Status;
 use arrayvec::ArrayVec;
 use bertlv::{Tlv, append};
@@ -62,7 +62,7 @@ fn write_keys(
 }
 
 // Appends the element of a tag with what was found for it.
-fn write_datum(tables: &Tables, tag: u16, datum: Datum<'_>, reply: &mut ArrayVec<u8, REPLY_LIMIT>)
+fn write_datum(tables: &Tables, tag: u16, datum: Datum<'_>, reply: &mut Reply)
     requires in_order { IsInOrder tables.now }
     requires tag { IsTag tag }
     requires empty { reply.old.items ≡ [] }
@@ -105,8 +105,8 @@ pub fn get_data(
     channel: u8,
     domain: u8,
     tag: u16,
-    reply: &mut ArrayVec<u8, REPLY_LIMIT>,
-) -> Result<Status, Rule>
+    reply: &mut Reply,
+) -> Answer
     requires in_order { IsInOrder tables.now }
     requires channel { channel < CHANNELS }
     requires selected { slice_index_or live.now.selected channel None ≡ Some domain }

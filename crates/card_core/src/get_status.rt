@@ -5,24 +5,19 @@ ghost use Rattle.card_core.specs.Prelude.{ActsIn, Admitted, ForActing, IsAsked, 
 ghost use Rattle.policy_rules.specs.declared.request.Request.TheVariants.{List as ListStatus};
 ghost use Rattle.scp03_card.specs.declared.close.TheConstants.{DATA_LIMIT};
 
-use crate::reply::REPLY_LIMIT;
+use crate::reply::{Answer, Reply};
 use crate::status_template::{TEMPLATE_ROOM, write_template};
 use apdu_core::Status;
 use arrayvec::ArrayVec;
 use card_types::{Aid, Found, Tables};
-use policy_rules::{CHANNELS, ListRequest, Live, Place, Rule, judge_status, next_shown};
+use policy_rules::{CHANNELS, ListRequest, Live, Place, judge_status, next_shown};
 use scp03_card::DATA_LIMIT;
 
 /// How many bytes a part of a listing has, at most.
 const PART_LIMIT: usize = DATA_LIMIT;
 
 // Appends the template of a thing, where the part has room for it; the thing's AID.
-fn show(
-    tables: &Tables,
-    kind: u8,
-    thing: Found,
-    reply: &mut ArrayVec<u8, REPLY_LIMIT>,
-) -> Option<Aid>
+fn show(tables: &Tables, kind: u8, thing: Found, reply: &mut Reply) -> Option<Aid>
     requires used { IsSome (aid_of tables.now thing) }
     requires room { length reply.old.items ≤ PART_LIMIT }
     ensures named { IfSome result (λ aid. aid_of tables.now thing ≡ Some aid) }
@@ -51,7 +46,7 @@ fn show_part(
     domain: u8,
     request: &ListRequest<'_>,
     first: Found,
-    reply: &mut ArrayVec<u8, REPLY_LIMIT>,
+    reply: &mut Reply,
 ) -> Option<Aid>
     requires in_order { IsInOrder tables.now }
     requires used { IsSome (aid_of tables.now first) }
@@ -80,8 +75,8 @@ pub fn get_status(
     channel: u8,
     domain: u8,
     request: &ListRequest<'_>,
-    reply: &mut ArrayVec<u8, REPLY_LIMIT>,
-) -> Result<Status, Rule>
+    reply: &mut Reply,
+) -> Answer
     requires in_order { IsInOrder tables.now }
     requires channel { channel < CHANNELS }
     requires formed { IsWellFormed (ListStatus request.now) }

@@ -9,13 +9,12 @@ ghost use Rattle.scp03_card.specs.declared.close.TheConstants.{DATA_LIMIT};
 
 use crate::aes_offer::AesOffer;
 use crate::channel_session::ChannelSession;
-use crate::reply::REPLY_LIMIT;
+use crate::reply::{Answer, Reply};
 use apdu_core::Status;
-use arrayvec::ArrayVec;
 use card_types::{KeyRec, Object, Tables};
 use flash_core::Flash;
 use key_sets::raise_counter;
-use policy_rules::{Datum, Rule, judge_get_data, judge_initialize_update};
+use policy_rules::{Datum, judge_get_data, judge_initialize_update};
 use rec_store::Records;
 
 /// The tag of key diversification data.
@@ -39,7 +38,7 @@ fn diversification(tables: &Tables, owner: u8) -> Option<&Object>
 }
 
 // The key diversification data of a domain, or ten 00.
-fn write_diversification(tables: &Tables, owner: u8, reply: &mut ArrayVec<u8, REPLY_LIMIT>)
+fn write_diversification(tables: &Tables, owner: u8, reply: &mut Reply)
     requires in_order { IsInOrder tables.now }
     requires empty { reply.old.items ≡ [] }
     ensures written { ForEntry tables.now owner (λ said aid. reply.new.items ≡ diversification_of (object_named said aid 0xCF)) }
@@ -52,12 +51,7 @@ fn write_diversification(tables: &Tables, owner: u8, reply: &mut ArrayVec<u8, RE
 }
 
 // The body of the reply, where this is the Key-ENC of the key set.
-fn write_offer(
-    tables: &Tables,
-    enc: &KeyRec,
-    offer: &AesOffer,
-    reply: &mut ArrayVec<u8, REPLY_LIMIT>,
-)
+fn write_offer(tables: &Tables, enc: &KeyRec, offer: &AesOffer, reply: &mut Reply)
     requires in_order { IsInOrder tables.now }
     requires counter { enc.now.counter ≤ COUNTER_LIMIT }
     requires empty { reply.old.items ≡ [] }
@@ -82,8 +76,8 @@ pub fn initialize_update<F: Flash>(
     domain: u8,
     version: u8,
     challenge: &[u8],
-    reply: &mut ArrayVec<u8, REPLY_LIMIT>,
-) -> Result<Status, Rule>
+    reply: &mut Reply,
+) -> Answer
     requires live { records.old.live ≡ true }
     requires clean { records.old.staged ≡ [] }
     requires cards { AreCards records.old.tables }

@@ -1,19 +1,15 @@
 //! INSTALL [for install]: an application or a security domain is made (GlobalPlatform Card Specification 2.3.1, 9.3.2 and 11.5).
 
-ghost use Rattle.std.specs.Prelude.{◌≡◌};
-ghost use Rattle.card_core.specs.Installs.{slot_made};
+ghost use Rattle.std.proofs.Common.{◌≡◌, inl, refl};
+ghost use Rattle.card_core.specs.Prelude.{managed_install, of_form, slot_made};
 ghost use Rattle.policy_rules.specs.declared.request.Request.TheVariants.{Install};
 
-use crate::channel_session::ChannelSession;
-use crate::confirm::confirm;
-use crate::judging::judge;
-use crate::managed_request::ManagedRequest;
-use crate::reply::REPLY_LIMIT;
-use apdu_core::Status;
-use arrayvec::ArrayVec;
+use crate::confirm::Aids;
+use crate::confirmed_request::ConfirmedRequest;
+use crate::managed_request::Acting;
 use card_types::{Entry, Life, LifeMark};
 use flash_core::Flash;
-use policy_rules::{InstallRequest, Live, Rule};
+use policy_rules::InstallRequest;
 use rec_store::Records;
 use registry::place_entry;
 
@@ -40,28 +36,21 @@ fn made(request: &InstallRequest<'_>, domain: u8, file: u8) -> Entry
     }
 }
 
-impl ManagedRequest for InstallRequest<'_> {
+impl ConfirmedRequest for InstallRequest<'_> {
     ghost request = { λ request. Install request };
 
-    #[inline(never)]
-    fn manage<F: Flash>(
-        &self,
-        records: &mut Records<F>,
-        live: &Live,
-        _held: &ChannelSession,
-        domain: u8,
-        reply: &mut ArrayVec<u8, REPLY_LIMIT>,
-    ) -> Result<Status, Rule> {
-        let judged = judge(records, live, domain, self)?;
-        place_entry(records, made(self, domain, judged.found));
-        confirm(
-            records,
-            judged.receipter,
-            &self.file,
-            Some(&self.aid),
-            None,
-            reply,
-        );
-        Ok(Status(0x9000))
+    ghost managed = { managed_install };
+
+    fn change<F: Flash>(&self, records: &mut Records<F>, acting: &Acting<'_>, file: u8) -> Aids {
+        place_entry(records, made(self, acting.domain, file));
+        Aids::new(self.file, Some(self.aid), None)
     }
+
+    ghost read = { λ these command is. (is.means, is.means.short) };
+
+    ghost shown = { λ page tables live admitted says channels. says.load };
+
+    ghost formed = { λ these admitted is. of_form managed_install (λ holds found. inl found) refl (λ asked. refl) admitted is.form };
+
+    ghost changes = { λ these. refl };
 }

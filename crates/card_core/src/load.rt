@@ -8,9 +8,8 @@ ghost use Rattle.scp03_card.specs.declared.close.TheConstants.{DATA_LIMIT};
 
 use crate::loaded_file::add_loaded;
 use crate::loading::Loading;
-use crate::reply::REPLY_LIMIT;
+use crate::reply::{Answer, Reply};
 use apdu_core::Status;
-use arrayvec::ArrayVec;
 use card_types::Tables;
 use flash_core::Flash;
 use load_session::{BlockStop, LoadSession, Taken};
@@ -78,8 +77,8 @@ pub fn load<F: Flash>(
     channel: u8,
     domain: u8,
     request: &LoadRequest<'_>,
-    reply: &mut ArrayVec<u8, REPLY_LIMIT>,
-) -> Result<Status, Rule>
+    reply: &mut Reply,
+) -> Answer
     requires live { records.old.live ≡ true }
     requires clean { records.old.staged ≡ [] }
     requires cards { AreCards records.old.tables }

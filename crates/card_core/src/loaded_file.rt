@@ -5,9 +5,8 @@ ghost use Rattle.card_core.specs.Prelude.{AddsLoaded, AreCards, AreOwn, IsInLoad
 ghost use Rattle.card_types.specs.declared.limits.TheConstants.{LOAD_PAGES};
 ghost use Rattle.scp03_card.specs.declared.close.TheConstants.{DATA_LIMIT};
 
-use crate::confirm::confirm;
-use crate::reply::REPLY_LIMIT;
-use arrayvec::ArrayVec;
+use crate::confirm::{Aids, confirm};
+use crate::reply::Reply;
 use card_types::{LoadFile, in_slot};
 use flash_core::Flash;
 use rec_store::Records;
@@ -19,7 +18,7 @@ pub fn add_loaded<F: Flash>(
     records: &mut Records<F>,
     file: LoadFile,
     receipter: Option<u8>,
-    reply: &mut ArrayVec<u8, REPLY_LIMIT>,
+    reply: &mut Reply,
 )
     requires live { records.old.live ≡ true }
     requires clean { records.old.staged ≡ [] }
@@ -40,6 +39,7 @@ pub fn add_loaded<F: Flash>(
     ensures room { length reply.new.items ≤ DATA_LIMIT }
 {
     let into = in_slot(&records.tables().entries, file.domain).unwrap().aid;
+    let about = Aids::new(file.aid, Some(into), None);
     place_file(records, file);
-    confirm(records, receipter, &file.aid, Some(&into), None, reply);
+    confirm(records, receipter, &about, reply);
 }

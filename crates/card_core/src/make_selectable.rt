@@ -1,18 +1,16 @@
 //! INSTALL [for make selectable]: an application that is installed can be selected from then on (GlobalPlatform Card
 //! Specification 2.3.1, 9.3.3 and 11.5).
 
+ghost use Rattle.std.proofs.Common.{inl, inr, refl};
+ghost use Rattle.card_core.specs.Prelude.{managed_selectable, of_form};
 ghost use Rattle.policy_rules.specs.declared.request.Request.TheVariants.{MakeSelectable};
 
-use crate::channel_session::ChannelSession;
-use crate::confirm::confirm;
-use crate::judging::judge;
-use crate::managed_request::ManagedRequest;
-use crate::reply::REPLY_LIMIT;
-use apdu_core::Status;
-use arrayvec::ArrayVec;
+use crate::confirm::Aids;
+use crate::confirmed_request::ConfirmedRequest;
+use crate::managed_request::Acting;
 use card_types::{Life, LifeMark};
 use flash_core::Flash;
-use policy_rules::{Live, Rule, SelectableRequest};
+use policy_rules::SelectableRequest;
 use rec_store::Records;
 use registry::set_life;
 
@@ -22,21 +20,21 @@ const SELECTABLE: LifeMark = LifeMark {
     locked: false,
 };
 
-impl ManagedRequest for SelectableRequest<'_> {
+impl ConfirmedRequest for SelectableRequest<'_> {
     ghost request = { λ request. MakeSelectable request };
 
-    #[inline(never)]
-    fn manage<F: Flash>(
-        &self,
-        records: &mut Records<F>,
-        live: &Live,
-        _held: &ChannelSession,
-        domain: u8,
-        reply: &mut ArrayVec<u8, REPLY_LIMIT>,
-    ) -> Result<Status, Rule> {
-        let judged = judge(records, live, domain, self)?;
-        set_life(records, judged.found, SELECTABLE);
-        confirm(records, judged.receipter, &self.aid, None, None, reply);
-        Ok(Status(0x9000))
+    ghost managed = { managed_selectable };
+
+    fn change<F: Flash>(&self, records: &mut Records<F>, _acting: &Acting<'_>, slot: u8) -> Aids {
+        set_life(records, slot, SELECTABLE);
+        Aids::new(self.aid, None, None)
     }
+
+    ghost read = { λ these command is. (is.means, is.means.short) };
+
+    ghost shown = { λ page tables live admitted says channels. tt };
+
+    ghost formed = { λ these admitted is. of_form managed_selectable (λ holds found. inr (inl found)) refl (λ asked. refl) admitted is.form };
+
+    ghost changes = { λ these. refl };
 }

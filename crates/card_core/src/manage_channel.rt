@@ -7,14 +7,13 @@ ghost use Rattle.policy_rules.specs.declared.request.Request.TheVariants.{MoreCh
 ghost use Rattle.scp03_card.specs.declared.close.TheConstants.{DATA_LIMIT};
 
 use crate::channel_session::ChannelSession;
-use crate::reply::REPLY_LIMIT;
+use crate::reply::{Answer, Reply};
 use apdu_core::Status;
-use arrayvec::ArrayVec;
 use card_types::ISSUER_SLOT;
 use policy_rules::{CHANNELS, Live, Rule, judge_more_channel};
 
 /// Opens the lowest closed channel, with the Issuer Security Domain selected, and answers its number.
-pub fn open_channel(live: &mut Live, reply: &mut ArrayVec<u8, REPLY_LIMIT>) -> Result<Status, Rule>
+pub fn open_channel(live: &mut Live, reply: &mut Reply) -> Answer
     requires empty { reply.old.items ≡ [] }
     ensures done { (tables : Tables) → HasLayout tables → ForShown tables live.old (λ page all admitted. admitted.channel < CHANNELS
         → IsRequestOf MoreChannel admitted.command
@@ -32,11 +31,7 @@ pub fn open_channel(live: &mut Live, reply: &mut ArrayVec<u8, REPLY_LIMIT>) -> R
 }
 
 /// Closes a channel. A warning says that it was closed already.
-pub fn close_channel(
-    live: &mut Live,
-    held: &mut [ChannelSession; CHANNELS],
-    number: u8,
-) -> Result<Status, Rule>
+pub fn close_channel(live: &mut Live, held: &mut [ChannelSession; CHANNELS], number: u8) -> Answer
     requires low { 1 ≤ number }
     requires high { number < CHANNELS }
     ensures done { (page : ℕ → List ℕ) (tables : Tables) (admitted : Admitted) → RepresentsSoundly page (kept_of tables live.old held.old) admitted.at

@@ -10,23 +10,21 @@ ghost use Rattle.scp03_card.specs.declared.close.TheConstants.{DATA_LIMIT};
 
 use crate::admit::Received;
 use crate::channel_session::ChannelSession;
-use crate::managed_request::ManagedRequest;
-use crate::reply::REPLY_LIMIT;
-use apdu_core::Status;
-use arrayvec::ArrayVec;
+use crate::managed_request::{Acting, ManagedRequest};
+use crate::reply::{Answer, Reply};
 use flash_core::Flash;
-use policy_rules::{CHANNELS, Live, Rule};
+use policy_rules::{CHANNELS, Live};
 use rec_store::Records;
 
 /// Does what a request of card content management asks for, on the channel that it came on. It commits nothing.
-pub fn manage<M: ManagedRequest, F: Flash>(
+pub fn manage<M: ManagedRequest<F>, F: Flash>(
     records: &mut Records<F>,
     live: &Live,
     held: &[ChannelSession; CHANNELS],
     received: &Received<'_>,
     request: &M,
-    reply: &mut ArrayVec<u8, REPLY_LIMIT>,
-) -> Result<Status, Rule>
+    reply: &mut Reply,
+) -> Answer
     requires live { records.old.live ≡ true }
     requires clean { records.old.staged ≡ [] }
     requires cards { AreCards records.old.tables }
@@ -35,7 +33,6 @@ pub fn manage<M: ManagedRequest, F: Flash>(
     requires domain { (form_in (M.request request.now)).instruction ≢ SELECT → (form_in (M.request request.now)).instruction ≢ MANAGE_CHANNEL
         → is_domain_in records.old.tables.entries.items received.now.selected ≡ true }
     requires secured { Contains managing (form_in (M.request request.now)).instruction → IsInSession (held_on held.now received.now.channel) }
-    requires changing { Contains changing (form_in (M.request request.now)).instruction }
     requires formed { IsWellFormed (M.request request.now) }
     requires other { AsksForLoad (M.request request.now) → ⊥ }
     requires empty { reply.old.items ≡ [] }
@@ -48,5 +45,10 @@ pub fn manage<M: ManagedRequest, F: Flash>(
     ensures room { length reply.new.items ≤ DATA_LIMIT }
 {
     let channel = usize::from(received.channel);
-    request.manage(records, live, &held[channel], received.selected, reply)
+    let acting = Acting {
+        live,
+        held: &held[channel],
+        domain: received.selected,
+    };
+    request.manage(records, &acting, reply)
 }

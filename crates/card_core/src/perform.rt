@@ -19,13 +19,11 @@ use crate::loading::Loading;
 use crate::manage_channel::{close_channel, open_channel};
 use crate::management::manage;
 use crate::put_key::PutKeyRequest;
-use crate::reply::REPLY_LIMIT;
+use crate::reply::{Answer, Reply};
 use crate::select::select;
 use crate::store_data::StoreRequest;
-use apdu_core::Status;
-use arrayvec::ArrayVec;
 use flash_core::Flash;
-use policy_rules::{CHANNELS, Live, Place, Request, Rule};
+use policy_rules::{CHANNELS, Live, Place, Request};
 use rec_store::Records;
 
 /// Does what a request asks for, and appends the reply's data. Commands with large values of their own are out of line, so that the
@@ -38,8 +36,8 @@ pub fn perform<F: Flash>(
     received: &Received<'_>,
     request: &Request<'_>,
     place: Option<&Place>,
-    reply: &mut ArrayVec<u8, REPLY_LIMIT>,
-) -> Result<Status, Rule>
+    reply: &mut Reply,
+) -> Answer
     requires ready { IsReady (form_in request.now).instruction records.old live.old held.old loading.old received.now reply.old.items }
     requires offered { (form_in request.now).instruction ≡ EXTERNAL_AUTHENTICATE → IsOffered (held_on held.old received.now.channel) }
     requires formed { IsWellFormed request.now }

@@ -1,17 +1,16 @@
 //! PUT KEY: keys of a domain are put (GlobalPlatform Card Specification 2.3.1, 11.8; Amendment D, 7.2).
 
-ghost use Rattle.std.specs.Prelude.{◌≡◌, ◌≤◌, ◌+◌, ◌++◌, ◌&&◌, length};
+ghost use Rattle.std.specs.Prelude.{◌≡◌, ◌≤◌, ◌+◌, ◌++◌, ◌&&◌, length, refl};
 ghost use Rattle.policy_rules.specs.declared.request.Request.TheVariants.{PutKey};
 
 use crate::channel_session::ChannelSession;
-use crate::managed_request::ManagedRequest;
+use crate::managed_request::{Acting, ManagedRequest};
 use crate::opened_key::OpenedKey;
-use crate::reply::REPLY_LIMIT;
+use crate::reply::{Answer, Reply};
 use apdu_core::Status;
-use arrayvec::ArrayVec;
 use flash_core::Flash;
 use key_sets::{place_one, place_set};
-use policy_rules::{Live, PutKeys, Rule, RuleG, SealedKey, judge_put_keys, judge_put_versions};
+use policy_rules::{PutKeys, Rule, RuleG, SealedKey, judge_put_keys, judge_put_versions};
 use rec_store::Records;
 
 fn all_fit(enc: &OpenedKey, mac: &OpenedKey, dek: &OpenedKey) -> bool
@@ -21,7 +20,7 @@ fn all_fit(enc: &OpenedKey, mac: &OpenedKey, dek: &OpenedKey) -> bool
 }
 
 // A check value joins the reply.
-fn write_check(sent: &SealedKey<'_>, reply: &mut ArrayVec<u8, REPLY_LIMIT>)
+fn write_check(sent: &SealedKey<'_>, reply: &mut Reply)
     requires size { length sent.now.check.now ≡ 3 }
     requires room { length reply.old.items ≤ 200 }
     ensures written { reply.new.items ≡ reply.old.items ++ sent.now.check.now }
@@ -51,21 +50,15 @@ impl<'a> PutKeyRequest<'a> {
     }
 }
 
-impl ManagedRequest for PutKeyRequest<'_> {
+impl<F: Flash> ManagedRequest<F> for PutKeyRequest<'_> {
     ghost request = { λ request. PutKey request.replaced request.version request.keys.now };
 
     #[inline(never)]
-    fn manage<F: Flash>(
-        &self,
-        records: &mut Records<F>,
-        _live: &Live,
-        held: &ChannelSession,
-        domain: u8,
-        reply: &mut ArrayVec<u8, REPLY_LIMIT>,
-    ) -> Result<Status, Rule> {
-        let ChannelSession::Secured(session) = held else {
+    fn manage(&self, records: &mut Records<F>, acting: &Acting<'_>, reply: &mut Reply) -> Answer {
+        let ChannelSession::Secured(session) = acting.held else {
             return Err(Rule::G(RuleG::G6));
         };
+        let domain = acting.domain;
         judge_put_versions(records.tables(), domain, self.replaced, self.version)?;
         match self.keys {
             PutKeys::One(sent) => {
@@ -99,4 +92,6 @@ impl ManagedRequest for PutKeyRequest<'_> {
             }
         }
     }
+
+    ghost changes = { λ these. refl };
 }

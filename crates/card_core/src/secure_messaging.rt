@@ -5,9 +5,8 @@ ghost use Rattle.card_core.specs.Prelude.{IsInSession, OpensAs, RepresentsSecure
 ghost use Rattle.scp03_card.specs.declared.close.TheConstants.{DATA_LIMIT};
 
 use crate::channel_session::ChannelSession;
-use crate::reply::REPLY_LIMIT;
+use crate::reply::Reply;
 use apdu_core::{Command, Status};
-use arrayvec::ArrayVec;
 use policy_rules::RuleG;
 use scp03_card::OpenRefusal;
 
@@ -40,7 +39,7 @@ pub fn open_command(
 }
 
 /// Closes the reply to a protected command, in the session of its channel.
-pub fn close_reply(held: &mut ChannelSession, status: Status, reply: &mut ArrayVec<u8, REPLY_LIMIT>)
+pub fn close_reply(held: &mut ChannelSession, status: Status, reply: &mut Reply)
     requires secured { IsInSession held.old }
     requires room { array_vec_len reply.old ≤ DATA_LIMIT }
     ensures closed { (session : Session) → RepresentsSecureChannel held.old (Secured session) → reply.new.items ≡ protected session reply.old.items status.0 }

@@ -7,7 +7,7 @@ ghost use Rattle.policy_rules.specs.declared.request.Request.TheVariants.{Select
 ghost use Rattle.scp03_card.specs.declared.close.TheConstants.{DATA_LIMIT};
 
 use crate::channel_session::ChannelSession;
-use crate::reply::REPLY_LIMIT;
+use crate::reply::{Answer, Reply};
 use apdu_core::Status;
 use arrayvec::ArrayVec;
 use bertlv::{Tlv, append};
@@ -27,7 +27,7 @@ const PROPRIETARY: u16 = 0xA5;
 const LONGEST_FIELD: u16 = 0x9F65;
 
 // The file control information of an entry.
-fn write_control_information(aid: &[u8], reply: &mut ArrayVec<u8, REPLY_LIMIT>)
+fn write_control_information(aid: &[u8], reply: &mut Reply)
     requires aid { length aid.now ≤ 16 }
     requires empty { reply.old.items ≡ [] }
     ensures written { IsControlInformation aid.now reply.new.items }
@@ -82,8 +82,8 @@ pub fn select(
     held: &mut ChannelSession,
     channel: u8,
     partial: &[u8],
-    reply: &mut ArrayVec<u8, REPLY_LIMIT>,
-) -> Result<Status, Rule>
+    reply: &mut Reply,
+) -> Answer
     requires in_order { IsInOrder tables.now }
     requires channel { channel < CHANNELS }
     requires empty { reply.old.items ≡ [] }

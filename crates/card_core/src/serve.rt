@@ -11,11 +11,10 @@ use crate::channel_session::ChannelSession;
 use crate::loading::Loading;
 use crate::perform::perform;
 use crate::read_request::read_request;
-use crate::reply::{REPLY_LIMIT, write_status};
+use crate::reply::{Answer, Reply, write_status};
 use crate::secure_messaging::{close_reply, open_command};
 use crate::workspace::Workspace;
-use apdu_core::{Command, Status};
-use arrayvec::ArrayVec;
+use apdu_core::Command;
 use card_types::CardLife;
 use flash_core::Flash;
 use policy_rules::{
@@ -90,8 +89,8 @@ fn act<F: Flash>(
     received: &Received<'_>,
     command: &Command<'_>,
     place: Option<&Place>,
-    reply: &mut ArrayVec<u8, REPLY_LIMIT>,
-) -> Result<Status, Rule>
+    reply: &mut Reply,
+) -> Answer
     requires ready { IsReady command.now.ins records.old live.old held.old loading.old received.now reply.old.items }
     requires built { IsBuilt command.now.ins }
     requires short { length command.now.body.now ≤ 255 }
@@ -181,7 +180,7 @@ fn plain_body<'a>(command: &Command<'a>, opened: Option<usize>, plain: &'a [u8; 
 }
 
 // Closes a reply in plain, and answers the rule.
-fn close_plain(served: Result<Status, Rule>, reply: &mut ArrayVec<u8, REPLY_LIMIT>) -> Option<Rule>
+fn close_plain(served: Answer, reply: &mut Reply) -> Option<Rule>
     requires { length reply.old.items ≤ DATA_LIMIT }
     ensures closed { reply.new.items ≡ reply.old.items ++ status_bytes (status_word served) }
     ensures rule { result ≡ rule_of served }
@@ -199,11 +198,7 @@ fn close_plain(served: Result<Status, Rule>, reply: &mut ArrayVec<u8, REPLY_LIMI
 }
 
 // Closes a reply to a protected command, and answers the rule.
-fn close_protected(
-    served: Result<Status, Rule>,
-    held: &mut ChannelSession,
-    reply: &mut ArrayVec<u8, REPLY_LIMIT>,
-) -> Option<Rule>
+fn close_protected(served: Answer, held: &mut ChannelSession, reply: &mut Reply) -> Option<Rule>
     requires secured { IsInSession held.old }
     requires room { length reply.old.items ≤ DATA_LIMIT }
     ensures closed { (session : Session) → RepresentsSecureChannel held.old (Secured session) → reply.new.items ≡ protected session reply.old.items (status_word served) }
@@ -224,10 +219,10 @@ fn close_protected(
 
 // Closes the reply to a command, in the session that it was opened in, and answers the rule.
 fn close(
-    served: Result<Status, Rule>,
+    served: Answer,
     opened: Option<usize>,
     held: &mut ChannelSession,
-    reply: &mut ArrayVec<u8, REPLY_LIMIT>,
+    reply: &mut Reply,
 ) -> Option<Rule>
     requires secured { IfSome opened (λ count. IsInSession held.old) }
     requires room { length reply.old.items ≤ DATA_LIMIT }
@@ -250,7 +245,7 @@ pub fn serve<F: Flash>(
     loading: &mut Loading,
     space: &mut Workspace,
     bytes: &[u8],
-    reply: &mut ArrayVec<u8, REPLY_LIMIT>,
+    reply: &mut Reply,
 ) -> Option<Rule>
     requires live { records.old.live ≡ true }
     requires clean { records.old.staged ≡ [] }

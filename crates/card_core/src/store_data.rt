@@ -1,19 +1,18 @@
 //! STORE DATA: data objects of a domain are put (GlobalPlatform Card Specification 2.3.1, 11.11).
 
-ghost use Rattle.std.specs.Prelude.{◌≡◌, ◌<◌, ◌≤◌, length, true, false, Some};
+ghost use Rattle.std.specs.Prelude.{◌≡◌, ◌<◌, ◌≤◌, length, true, false, Some, refl};
 ghost use Rattle.card_core.specs.Prelude.{HasRoomFor, IsSlotFor, PutsObject, has_object_in, is_tagged_in, object_pages, object_with, used};
 ghost use Rattle.card_types.specs.declared.limits.TheConstants.{OBJECTS};
 ghost use Rattle.policy_rules.specs.declared.request.Request.TheVariants.{Store};
 
-use crate::channel_session::ChannelSession;
-use crate::managed_request::ManagedRequest;
-use crate::reply::REPLY_LIMIT;
+use crate::managed_request::{Acting, ManagedRequest};
+use crate::reply::{Answer, Reply};
 use apdu_core::Status;
 use arrayvec::ArrayVec;
 use bertlv::{Tlv, read};
 use card_types::{Object, Wants, first_free, first_that};
 use flash_core::Flash;
-use policy_rules::{Live, Rule, judge_store_data};
+use policy_rules::judge_store_data;
 use rec_store::Records;
 
 // The domain's data object with a tag.
@@ -77,24 +76,19 @@ pub struct StoreRequest<'a> {
     pub objects: &'a [u8],
 }
 
-impl ManagedRequest for StoreRequest<'_> {
+impl<F: Flash> ManagedRequest<F> for StoreRequest<'_> {
     ghost request = { λ request. Store request.objects };
 
     #[inline(never)]
-    fn manage<F: Flash>(
-        &self,
-        records: &mut Records<F>,
-        _live: &Live,
-        _held: &ChannelSession,
-        domain: u8,
-        _reply: &mut ArrayVec<u8, REPLY_LIMIT>,
-    ) -> Result<Status, Rule> {
-        judge_store_data(records.tables(), domain, self.objects)?;
+    fn manage(&self, records: &mut Records<F>, acting: &Acting<'_>, _reply: &mut Reply) -> Answer {
+        judge_store_data(records.tables(), acting.domain, self.objects)?;
         let mut rest = self.objects;
         while let Ok((element, after)) = read(rest) {
-            put_object(records, domain, &element);
+            put_object(records, acting.domain, &element);
             rest = after;
         }
         Ok(Status(0x9000))
     }
+
+    ghost changes = { λ these. refl };
 }

@@ -1,5 +1,5 @@
 use Rattle.std.proofs.Common.{rules, ◌≡◌, ◌≢◌, ◌+◌, ◌≤◌, List, Option, Some, refl, ap, sym, subst, ◌∙◌, arith}
-use Rattle.std.specs.Option.{option_copied, option_map}
+use Rattle.std.specs.Option.{option_map}
 use Rattle.std.proofs.lemmas.Option.{MatchOption-at_some}
 use Rattle.card_types.proofs.Domains.{well_entry}
 use Rattle.card_types.proofs.LifeChanges.{receipts_keep}
@@ -9,11 +9,10 @@ use Rattle.card_types.specs.declared.limits.TheConstants.{RECEIPT_LIMIT}
 use Rattle.card_types.specs.declared.tables.Entry.{Entry}
 use Rattle.card_types.specs.declared.tables.Tables.{Tables}
 use Rattle.policy_slots.specs.HoldersFound.{MayReceipt}
-use Rattle.tokens_receipts.specs.Receipt.{aids_of}
 use Rattle.card_core.proofs.Cards.{in_order}
 use Rattle.card_core.proofs.Confirming.{confirmed}
 use Rattle.card_core.proofs.EntryCards.{changing_aids, entry_cards}
-use Rattle.card_core.specs.Confirms.{IsReceiptIn}
+use Rattle.card_core.specs.Confirms.{IsReceiptIn, aids_in}
 use Rattle.card_core.proofs.confirm.confirm.Goals as goal
 
 pub write_receipt-requires-clause-in_order : goal.write_receipt-requires-clause-in_order
@@ -27,7 +26,7 @@ returns-clause-answered g c page admitted before domain changed has =
     let there : held c.deref.result.now slot ≡ Some entry = search rules in
     let slots : c.deref.result.now ≡ tables.entries.items = c.deref.ensures.value ∙ ap (λ (t : Tables). t.entries.items) c.tables.ensures.tables in
     let at : held tables.entries.items slot ≡ Some entry = ap (λ (s : List (Option Entry)). held s slot) (sym slots) ∙ there in
-    let aids = aids_of c.args.first.now (option_copied c.args.second) (option_copied c.args.third) in
+    let aids = aids_in c.args.about.now in
     let is : IsReceiptIn tables slot (entry.receipts + 1) aids c.write_receipt.new.reply.items =
     subst (λ (t : Tables). IsReceiptIn t slot (entry.receipts + 1) aids c.write_receipt.new.reply.items) c.tables-2.ensures.tables c.write_receipt.ensures.receipt in
     confirmed page before tables domain c.args.receipter admitted changed has slot c.in-Some.is entry at

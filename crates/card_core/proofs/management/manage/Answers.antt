@@ -1,34 +1,45 @@
-use Rattle.std.proofs.Common.{rules, ◌≡◌, ℕ, length, [], ◌∷◌, false, refl, sym, subst, true≢false, ◌∙◌}
-use Rattle.std.proofs.lemmas.Bool.{eq-eqb}
-use Rattle.std.proofs.lemmas.List.Elements.{All-contains, All-from_recursion, Contains-append_left}
-use Rattle.std.specs.List.{AllByRecursion}
+use Rattle.std.proofs.Common.{rules, ◌≡◌, ◌≢◌, ℕ, length, [], ◌∷◌, false, true, refl, sym, subst, true≢false, ◌∙◌}
+use Rattle.std.proofs.lemmas.Bool.{eqb-true}
+use Rattle.std.proofs.lemmas.List.Elements.{Contains-append_left}
+use Rattle.std.proofs.lemmas.Map.Views.{Contains-from_any}
+use Rattle.std.specs.List.{list_any}
 use Rattle.std.specs.Prelude.{Contains, ◌==◌}
 use Rattle.policy_machine.specs.Classes.{changing}
 use Rattle.policy_machine.specs.declared.channels.TheConstants.{CHANNELS}
 use Rattle.policy_rules.specs.Requests.{form_in}
+use Rattle.policy_rules.specs.declared.request.Request.{Request}
 use Rattle.card_core.proofs.Acting.{acts_for, held_there, low, managed_done}
 use Rattle.card_core.proofs.LoadsKept.{kept_loading, loads_same, not_loading}
 use Rattle.card_core.proofs.Passed.{read_at}
+use Rattle.card_core.specs.Manages.{IsChanging}
 use Rattle.card_core.specs.Offers.{secure_channel_for}
 use Rattle.card_core.specs.Kept.{IsInSession, RepresentsSecureChannel}
 use Rattle.card_core.specs.declared.channel_session.ChannelSession.{ChannelSession}
 use Rattle.card_core.proofs.management.manage.Goals as goal
 
--- an instruction that changes no registry
-outside : (byte : ℕ) → AllByRecursion (λ b. (b == byte) ≡ false) changing → Contains changing byte → ⊥
-outside byte differ has = true≢false (sym (eq-eqb byte byte refl) ∙ All-contains (λ b. (b == byte) ≡ false) changing byte (All-from_recursion (λ b. (b == byte) ≡ false) changing differ) has)
+-- the instruction is another than one that changes no registry
+apart : (byte : ℕ) → list_any (λ other. byte == other) changing ≡ false → (request : Request) → IsChanging request → (form_in request).instruction ≢ byte
+apart byte none request changes is = true≢false (sym (subst (λ (ins : ℕ). list_any (λ other. ins == other) changing ≡ true) is changes) ∙ none)
+
+within : (request : Request) → IsChanging request → Contains changing (form_in request).instruction
+within request = Contains-from_any eqb-true (form_in request).instruction changing
 
 pub manage-requires-clause-domain : goal.manage-requires-clause-domain
 manage-requires-clause-domain g c =
-    c.requires.domain
-    (λ is. outside 0xA4 (refl, (refl, (refl, (refl, (refl, (refl, tt)))))) (subst (Contains changing) is c.requires.changing))
-    (λ is. outside 0x70 (refl, (refl, (refl, (refl, (refl, (refl, tt)))))) (subst (Contains changing) is c.requires.changing))
+    let request = g.M.ManagedRequest.request c.args.request.now in
+    let changes = g.met.M.ManagedRequest.changes c.args.request.now in
+    c.requires.domain (apart 0xA4 refl request changes) (apart 0x70 refl request changes)
 
 pub manage-requires-clause-secured : goal.manage-requires-clause-secured
 manage-requires-clause-secured g c =
     let four : length c.args.held.now ≡ CHANNELS = search rules in
+    let request = g.M.ManagedRequest.request c.args.request.now in
+    let changing_is = within request (g.met.M.ManagedRequest.changes c.args.request.now) in
     subst IsInSession (sym (read_at c.args.held.now c.from-channel.result c.args.received.now.channel c.index-held-channel.result four c.requires.channel c.from-channel.ensures))
-    (c.requires.secured (Contains-append_left changing (0xF2 ∷ []) (form_in (g.M.ManagedRequest.request c.args.request.now)).instruction c.requires.changing))
+    (c.requires.secured (Contains-append_left changing (0xF2 ∷ []) (form_in request).instruction changing_is))
+
+pub returns-clause-changing : goal.returns-clause-changing
+returns-clause-changing g c = within (g.M.ManagedRequest.request c.args.request.now) (g.met.M.ManagedRequest.changes c.args.request.now)
 
 pub returns-clause-done : goal.returns-clause-done
 returns-clause-done g c = λ place loading page judged whole shown asked.

@@ -114,56 +114,29 @@ returns-in-List-clause-done g c = rw c.requires.ready.unwritten (λ page judged 
 changes_as : (request other : Request) → request ≡ other → Contains changing (form_in other).instruction → Contains changing (form_in request).instruction
 changes_as request other is changes = subst (λ (r : Request). Contains changing (form_in r).instruction) (sym is) changes
 
-pub manage-requires-clause-changing : goal.manage-requires-clause-changing
-manage-requires-clause-changing g c = (0, omega arith, refl)
-
 pub returns-in-PutKey-clause-done : goal.returns-in-PutKey-clause-done
 returns-in-PutKey-clause-done g c = rw (c.requires.ready.unwritten, c.in-PutKey.is) ((rw c.new-keys.ensures at c.manage.ensures.done) _ _)
-
-pub manage-requires-in-Store-clause-changing : goal.manage-requires-in-Store-clause-changing
-manage-requires-in-Store-clause-changing g c = (1, omega arith, refl)
 
 pub returns-in-Store-clause-done : goal.returns-in-Store-clause-done
 returns-in-Store-clause-done g c = rw (c.requires.ready.unwritten, c.in-Store.is) (c.manage-in-Store.ensures.done _ _)
 
-pub manage-requires-in-DeleteKey-clause-changing : goal.manage-requires-in-DeleteKey-clause-changing
-manage-requires-in-DeleteKey-clause-changing g c = (2, omega arith, refl)
-
 pub returns-in-DeleteKey-clause-done : goal.returns-in-DeleteKey-clause-done
 returns-in-DeleteKey-clause-done g c = rw (c.requires.ready.unwritten, c.in-DeleteKey.is) ((rw c.new-keys-in-DeleteKey.ensures at c.manage-in-DeleteKey.ensures.done) _ _)
-
-pub manage-requires-in-DeleteObject-clause-changing : goal.manage-requires-in-DeleteObject-clause-changing
-manage-requires-in-DeleteObject-clause-changing g c = (2, omega arith, refl)
 
 pub returns-in-DeleteObject-clause-done : goal.returns-in-DeleteObject-clause-done
 returns-in-DeleteObject-clause-done g c = rw (c.requires.ready.unwritten, c.in-DeleteObject.is) (c.manage-in-DeleteObject.ensures.done _ _)
 
-pub manage-requires-in-Install-clause-changing : goal.manage-requires-in-Install-clause-changing
-manage-requires-in-Install-clause-changing g c = (3, omega arith, refl)
-
 pub returns-in-Install-clause-done : goal.returns-in-Install-clause-done
 returns-in-Install-clause-done g c = rw (c.requires.ready.unwritten, c.in-Install.is) (c.manage-in-Install.ensures.done _ _)
-
-pub manage-requires-in-MakeSelectable-clause-changing : goal.manage-requires-in-MakeSelectable-clause-changing
-manage-requires-in-MakeSelectable-clause-changing g c = (3, omega arith, refl)
 
 pub returns-in-MakeSelectable-clause-done : goal.returns-in-MakeSelectable-clause-done
 returns-in-MakeSelectable-clause-done g c = rw (c.requires.ready.unwritten, c.in-MakeSelectable.is) (c.manage-in-MakeSelectable.ensures.done _ _)
 
-pub manage-requires-in-Extradite-clause-changing : goal.manage-requires-in-Extradite-clause-changing
-manage-requires-in-Extradite-clause-changing g c = (3, omega arith, refl)
-
 pub returns-in-Extradite-clause-done : goal.returns-in-Extradite-clause-done
 returns-in-Extradite-clause-done g c = rw (c.requires.ready.unwritten, c.in-Extradite.is) (c.manage-in-Extradite.ensures.done _ _)
 
-pub manage-requires-in-CardStatus-clause-changing : goal.manage-requires-in-CardStatus-clause-changing
-manage-requires-in-CardStatus-clause-changing g c = (5, omega arith, refl)
-
 pub returns-in-CardStatus-clause-done : goal.returns-in-CardStatus-clause-done
 returns-in-CardStatus-clause-done g c = rw (c.requires.ready.unwritten, c.in-CardStatus.is) (c.manage-in-CardStatus.ensures.done _ _)
-
-pub manage-requires-in-EntryStatus-clause-changing : goal.manage-requires-in-EntryStatus-clause-changing
-manage-requires-in-EntryStatus-clause-changing g c = (5, omega arith, refl)
 
 pub returns-in-EntryStatus-clause-done : goal.returns-in-EntryStatus-clause-done
 returns-in-EntryStatus-clause-done g c = rw (c.requires.ready.unwritten, c.in-EntryStatus.is) (c.manage-in-EntryStatus.ensures.done _ _)

@@ -15,7 +15,7 @@ use Rattle.policy_machine.specs.ManagedForm.{command_form}
 pub returns-in_err-life-clause-done : goal.returns-in_err-life-clause-done
 returns-in_err-life-clause-done g c page admitted acts says channels request holds =
     let is : IsCardStatusOf c.args.self.now.life admitted.command = record { parameters = request.form.1; code_is = request.means } in
-    let here = subst (λ (t : Tables). ActsIn page t c.args.domain admitted) (sym c.tables.ensures.tables) acts in
+    let here = subst (λ (t : Tables). ActsIn page t c.args.acting.now.domain admitted) (sym c.tables.ensures.tables) acts in
     refused_as (command_form managed_card_status) (λ held here. inl here) admitted request.form refl page c.args.records.now.tables c.args._reply.now.items c.from_residual.result c.in_err-life.field-0.0 c.from_residual.ensures.1
     (c.in_err-life.ensures.refused page admitted here is) c.requires.empty
 
@@ -24,7 +24,7 @@ returns-clause-done g c page admitted acts says channels request holds =
     let before = c.args.records.now.tables in
     let life = c.in_ok-life.life in
     let is : IsCardStatusOf c.args.self.now.life admitted.command = record { parameters = request.form.1; code_is = request.means } in
-    let here = subst (λ (t : Tables). ActsIn page t c.args.domain admitted) (sym c.tables.ensures.tables) acts in
+    let here = subst (λ (t : Tables). ActsIn page t c.args.acting.now.domain admitted) (sym c.tables.ensures.tables) acts in
     replied_managed managed_card_status (λ held here. inl here) admitted request.form tt tt (with_card_life admitted.at.registry life)
     (record { life = life; code = c.in_ok-life.ensures.life ∙ is.code_is; registry = refl })
     (judged (command_form managed_card_status) (λ held here. inl here) admitted request.form refl None (c.in_ok-life.ensures.passed page admitted here is)) (λ no. no)
@@ -35,7 +35,7 @@ pub returns-clause-cards : goal.returns-clause-cards
 returns-clause-cards g c = card_life_cards c.args.records.now.tables c.set_card_life.new.self.tables c.in_ok-life.life c.set_card_life.ensures.tables c.requires.cards
 
 pub returns-clause-selected : goal.returns-clause-selected
-returns-clause-selected g c = entries_selected c.args._live.now c.args.records.now.tables.entries.items c.set_card_life.new.self.tables.entries.items (ap (λ (t : Tables). t.entries.items) c.set_card_life.ensures.tables)
+returns-clause-selected g c = entries_selected c.args.acting.now.live.now c.args.records.now.tables.entries.items c.set_card_life.new.self.tables.entries.items (ap (λ (t : Tables). t.entries.items) c.set_card_life.ensures.tables)
 
 pub returns-clause-free : goal.returns-clause-free
 returns-clause-free g c = files_free c.args.records.now.tables c.set_card_life.new.self.tables (ap (λ (t : Tables). t.files.items) c.set_card_life.ensures.tables)

@@ -17,16 +17,16 @@ judge_delete_key-requires g c = record { in_order = subst IsInOrder (sym c.table
 
 pub returns-in_err-judge_delete_key-clause-done : goal.returns-in_err-judge_delete_key-clause-done
 returns-in_err-judge_delete_key-clause-done g c page admitted acts says channels request holds =
-    let here = subst (λ (t : Tables). ActsIn page t c.args.domain admitted) (sym c.tables.ensures.tables) acts in
+    let here = subst (λ (t : Tables). ActsIn page t c.args.acting.now.domain admitted) (sym c.tables.ensures.tables) acts in
     refusal_managed admitted page c.args.records.now.tables c.args.reply.now.items c.from_residual.result c.in_err-judge_delete_key.field-0.0 c.from_residual.ensures.1
     (c.in_err-judge_delete_key.ensures.refused page admitted here request)
     c.requires.empty
 
 pub returns-clause-done : goal.returns-clause-done
 returns-clause-done g c page admitted acts says channels request holds =
-    let here = subst (λ (t : Tables). ActsIn page t c.args.domain admitted) (sym c.tables.ensures.tables) acts in
+    let here = subst (λ (t : Tables). ActsIn page t c.args.acting.now.domain admitted) (sym c.tables.ensures.tables) acts in
     let registry = without_version admitted.at.registry (acting admitted) c.args.self.now.version in
-    let says = deleted_says c.args.records.now c.delete.new.keeper c.delete.ensures.same_else c.args.domain c.args.self.now.version c.delete.ensures.deletes page
+    let says = deleted_says c.args.records.now c.delete.new.keeper c.delete.ensures.same_else c.args.acting.now.domain c.args.self.now.version c.delete.ensures.deletes page
     admitted.at.registry acts.says acts.well acts.entry acts.at in
     replied_managed managed_delete_key (λ holds here. inl here) admitted request.form (record { version = c.args.self.now.version; identifier = c.args.self.now.identifier }) request.means
     registry refl (c.in_ok-judge_delete_key.ensures.passed page admitted here request) (λ no. no) page c.delete.new.keeper.tables
@@ -35,11 +35,11 @@ returns-clause-done g c page admitted acts says channels request holds =
 
 pub returns-clause-cards : goal.returns-clause-cards
 returns-clause-cards g c =
-    deleted_cards c.args.records.now c.delete.new.keeper c.delete.ensures.same_else c.args.domain c.args.self.now.version c.delete.ensures.deletes
+    deleted_cards c.args.records.now c.delete.new.keeper c.delete.ensures.same_else c.args.acting.now.domain c.args.self.now.version c.delete.ensures.deletes
     c.delete.result c.delete.ensures.found c.delete.ensures.unchanged c.requires.cards
 
 pub returns-clause-selected : goal.returns-clause-selected
-returns-clause-selected g c = entries_selected c.args._live.now c.args.records.now.tables.entries.items c.delete.new.keeper.tables.entries.items (c.delete.ensures.same_else.entries)
+returns-clause-selected g c = entries_selected c.args.acting.now.live.now c.args.records.now.tables.entries.items c.delete.new.keeper.tables.entries.items (c.delete.ensures.same_else.entries)
 
 pub returns-clause-free : goal.returns-clause-free
 returns-clause-free g c = files_free c.args.records.now.tables c.delete.new.keeper.tables (c.delete.ensures.same_else.files)

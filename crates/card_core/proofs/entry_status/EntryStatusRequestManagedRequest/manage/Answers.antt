@@ -26,7 +26,7 @@ judge_entry_status-requires g c = record { in_order = subst IsInOrder (sym c.tab
 
 pub returns-in_err-change-clause-done : goal.returns-in_err-change-clause-done
 returns-in_err-change-clause-done g c page admitted acts says channels request holds =
-    let here = subst (λ (t : Tables). ActsIn page t c.args.domain admitted) (sym c.tables.ensures.tables) acts in
+    let here = subst (λ (t : Tables). ActsIn page t c.args.acting.now.domain admitted) (sym c.tables.ensures.tables) acts in
     refused_as (command_form managed_entry_status) (λ held here. inr (inl here)) admitted request.form refl page c.args.records.now.tables c.args._reply.now.items c.from_residual.result c.in_err-change.field-0.0 c.from_residual.ensures.1
     (c.in_err-change.ensures.refused page admitted here request.means) c.requires.empty
 
@@ -49,7 +49,7 @@ returns-clause-done g c page admitted acts says channels request holds =
     let before = c.args.records.now.tables in
     let after = c.make_change.new.records.tables in
     let change = c.in_ok-change.change in
-    let here = subst (λ (t : Tables). ActsIn page t c.args.domain admitted) (sym c.tables.ensures.tables) acts in
+    let here = subst (λ (t : Tables). ActsIn page t c.args.acting.now.domain admitted) (sym c.tables.ensures.tables) acts in
     let named = subst (λ (t : Tables). aid_of t (found.Entry (slot_of change)) ≡ Some c.args.self.now.aid) c.tables.ensures.tables c.in_ok-change.ensures.named in
     let left = change_says page before after admitted change (named ∙ ap Some request.means.aid) (c.in_ok-change.ensures.change page admitted here request.means)
     (c.make_change.ensures.said page admitted.at.registry acts.says acts.well) in
@@ -62,7 +62,7 @@ returns-clause-selected g c =
     let before = c.args.records.now.tables in
     let change = c.in_ok-change.change in
     let named = subst (λ (t : Tables). aid_of t (found.Entry (slot_of change)) ≡ Some c.args.self.now.aid) c.tables.ensures.tables c.in_ok-change.ensures.named in
-    aids_selected c.args._live.now before.entries.items c.make_change.new.records.tables.entries.items
+    aids_selected c.args.acting.now.live.now before.entries.items c.make_change.new.records.tables.entries.items
     (changed_aids before c.make_change.new.records.tables change c.requires.cards
     (used_by_name before.entries.items (slot_of change) c.args.self.now.aid named) c.make_change.ensures.made c.make_change.ensures.said)
 
@@ -76,12 +76,12 @@ returns-clause-cards g c =
     let aids = changed_aids before after change c.requires.cards
     (used_by_name before.entries.items (slot_of change) c.args.self.now.aid named) c.make_change.ensures.made c.make_change.ensures.said in
     changed_cards before after change c.make_change.ensures.made aids (λ page said says well.
-    (let some = some_admitted page before said says well c.args.domain c.requires.domain None asked.0 in
-    let acts = some_acts page before said says well c.args.domain c.requires.domain None asked.0 in
-    let here = subst (λ (t : Tables). ActsIn page t c.args.domain some) (sym c.tables.ensures.tables) acts in
+    (let some = some_admitted page before said says well c.args.acting.now.domain c.requires.domain None asked.0 in
+    let acts = some_acts page before said says well c.args.acting.now.domain c.requires.domain None asked.0 in
+    let here = subst (λ (t : Tables). ActsIn page t c.args.acting.now.domain some) (sym c.tables.ensures.tables) acts in
     let left = change_says page before after some change (named ∙ ap Some asked.1.means.aid) (c.in_ok-change.ensures.change page some here asked.1.means)
     (c.make_change.ensures.said page said says well) in
-    let kept = set_of_card some asked.1.means.field (c.in_ok-change.ensures.passed page some here asked.1.means) (of_card page before said says well c.args.domain c.requires.domain) left.0 left.2 in
+    let kept = set_of_card some asked.1.means.field (c.in_ok-change.ensures.passed page some here asked.1.means) (of_card page before said says well c.args.acting.now.domain c.requires.domain) left.0 left.2 in
     (left.0, left.1, kept.well))) c.requires.cards
 
 same_files : (before after : Tables) (change : StatusChange) → MakesChange before after change → after.files.items ≡ before.files.items

@@ -54,7 +54,7 @@ judge_store_data-requires g c = record { in_order = subst IsInOrder (sym c.table
 pub returns-in_err-judge_store_data-clause-done : goal.returns-in_err-judge_store_data-clause-done
 returns-in_err-judge_store_data-clause-done g c page admitted acts says channels request holds =
     let found = c.in_err-judge_store_data.field-0.0 in
-    let first = c.in_err-judge_store_data.ensures.refused page admitted (subst (λ t. ActsIn page t c.args.domain admitted) (sym c.tables.ensures.tables) acts) request in
+    let first = c.in_err-judge_store_data.ensures.refused page admitted (subst (λ t. ActsIn page t c.args.acting.now.domain admitted) (sym c.tables.ensures.tables) acts) request in
     refusal_managed admitted page c.args.records.now.tables c.args._reply.now.items c.from_residual.result found c.from_residual.ensures.1
     first c.requires.empty
 
@@ -67,30 +67,26 @@ loop-element-init g c = record {
   put = λ elements are forms. (
     elements,
     are,
-    none_put c.args.records.now.tables c.args.domain elements forms (rw c.tables.ensures.tables at (c.in_ok-judge_store_data.ensures.roomy elements are)),
+    none_put c.args.records.now.tables c.args.acting.now.domain elements forms (rw c.tables.ensures.tables at (c.in_ok-judge_store_data.ensures.roomy elements are)),
   );
 }
 
-pub put_object-requires-clause-size : goal.put_object-requires-clause-size
-put_object-requires-clause-size g c =
-    let element = c.in-Ok.element in
+pub put_object-requires : goal.put_object-requires
+put_object-requires g c =
+    let element : Element = record { tag = c.in-Ok.element.tag; value = c.in-Ok.element.value.now } in
     let formed = c.requires.formed in
     let elements = objects_of c.args.self.now.objects.now formed.0 formed.1.means formed.1.form.2 in
     let behind = c.loop-element.invariant.put elements.0 elements.1 elements.2.each in
-    let next = elements_behind behind.0 element.tag element.value.now c.in-Ok.after.now c.loop-element.rest.now behind.1 c.in-Ok.ensures.found in
-    let P = λ (e : Element). IsObject e.tag (length e.value) in
-    at_most element.tag (length element.value.now) (All-head P (record { tag = element.tag; value = element.value.now }) next.0 (subst (All P) next.1 behind.2.forms))
-
-pub put_object-requires-clause-room : goal.put_object-requires-clause-room
-put_object-requires-clause-room g c =
-    let element = c.in-Ok.element in
-    let formed = c.requires.formed in
-    let elements = objects_of c.args.self.now.objects.now formed.0 formed.1.means formed.1.form.2 in
-    let behind = c.loop-element.invariant.put elements.0 elements.1 elements.2.each in
-    let next = elements_behind behind.0 element.tag element.value.now c.in-Ok.after.now c.loop-element.rest.now behind.1 c.in-Ok.ensures.found in
+    let next = elements_behind behind.0 element.tag element.value c.in-Ok.after.now c.loop-element.rest.now behind.1 c.in-Ok.ensures.found in
     let slots = c.loop-element.records.tables.objects.items in
-    room_first slots c.args.domain (record { tag = element.tag; value = element.value.now }) next.0
-    (subst (λ (es : List Element). length (used slots) + new_tags (has_object_in slots c.args.domain) es ≤ OBJECTS) next.1 behind.2.room)
+    let P = λ (e : Element). IsObject e.tag (length e.value) in
+    record {
+      live = c.loop-element.invariant.live;
+      frames = c.loop-element.invariant.frames;
+      size = at_most element.tag (length element.value) (All-head P element next.0 (subst (All P) next.1 behind.2.forms));
+      room = room_first slots c.args.acting.now.domain element next.0
+          (subst (λ (es : List Element). length (used slots) + new_tags (has_object_in slots c.args.acting.now.domain) es ≤ OBJECTS) next.1 behind.2.room);
+    }
 
 pub loop-element-preserved : goal.loop-element-preserved
 loop-element-preserved g c =
@@ -104,14 +100,14 @@ loop-element-preserved g c =
       flash = c.put_object.ensures.same.0 ∙ c.loop-element.invariant.flash;
       live = c.put_object.ensures.same.1;
       frames = c.put_object.ensures.frames;
-      same = same_after before now after puts.slot (Some (object_with c.args.domain element.tag element.value.now)) same puts.set;
+      same = same_after before now after puts.slot (Some (object_with c.args.acting.now.domain element.tag element.value.now)) same puts.set;
       put = λ elements are forms.
           (let behind = c.loop-element.invariant.put elements are forms in
           let next = elements_behind behind.0 element.tag element.value.now c.in-Ok.after.now c.loop-element.rest.now behind.1 c.in-Ok.ensures.found in (
             next.0,
             next.2,
-            put_after before now after c.args.domain c.requires.domain same c.tables.ensures.roomy.slots.objects (record { tag = element.tag; value = element.value.now }) puts elements next.0
-                (subst (ArePut before now c.args.domain elements) next.1 behind.2),
+            put_after before now after c.args.acting.now.domain c.requires.domain same c.tables.ensures.roomy.slots.objects (record { tag = element.tag; value = element.value.now }) puts elements next.0
+                (subst (ArePut before now c.args.acting.now.domain elements) next.1 behind.2),
           ));
     }
 
@@ -122,10 +118,10 @@ returns-clause-done g c page admitted acts says channels request holds =
     let elements = objects_of c.args.self.now.objects.now admitted.command request.means request.form.2 in
     let behind = c.loop-element.invariant.put elements.0 elements.1 elements.2.each in
     let none = none_left behind.0 c.loop-element.rest.now behind.1 c.in_default.ensures.only in
-    let first = c.in_ok-judge_store_data.ensures.passed page admitted (subst (λ t. ActsIn page t c.args.domain admitted) (sym c.tables.ensures.tables) acts) request in
-    rw c.requires.empty (all_managed page before now c.args.domain admitted acts request.form
+    let first = c.in_ok-judge_store_data.ensures.passed page admitted (subst (λ t. ActsIn page t c.args.acting.now.domain admitted) (sym c.tables.ensures.tables) acts) request in
+    rw c.requires.empty (all_managed page before now c.args.acting.now.domain admitted acts request.form
     first
-    elements.0 elements.2 (subst (ArePut before now c.args.domain elements.0) none behind.2) _ refl)
+    elements.0 elements.2 (subst (ArePut before now c.args.acting.now.domain elements.0) none behind.2) _ refl)
 
 pub returns-clause-cards : goal.returns-clause-cards
 returns-clause-cards g c =
@@ -135,10 +131,10 @@ returns-clause-cards g c =
     let elements = objects_of c.args.self.now.objects.now formed.0 formed.1.means formed.1.form.2 in
     let behind = c.loop-element.invariant.put elements.0 elements.1 elements.2.each in
     let none = none_left behind.0 c.loop-element.rest.now behind.1 c.in_default.ensures.only in
-    are_cards_after before now c.args.domain elements.0 c.loop-element.invariant.same (subst (ArePut before now c.args.domain elements.0) none behind.2) c.requires.cards
+    are_cards_after before now c.args.acting.now.domain elements.0 c.loop-element.invariant.same (subst (ArePut before now c.args.acting.now.domain elements.0) none behind.2) c.requires.cards
 
 pub returns-clause-selected : goal.returns-clause-selected
-returns-clause-selected g c = entries_selected c.args._live.now c.args.records.now.tables.entries.items c.loop-element.records.tables.entries.items (c.loop-element.invariant.same.entries)
+returns-clause-selected g c = entries_selected c.args.acting.now.live.now c.args.records.now.tables.entries.items c.loop-element.records.tables.entries.items (c.loop-element.invariant.same.entries)
 
 pub returns-clause-free : goal.returns-clause-free
 returns-clause-free g c = files_free c.args.records.now.tables c.loop-element.records.tables (c.loop-element.invariant.same.files)

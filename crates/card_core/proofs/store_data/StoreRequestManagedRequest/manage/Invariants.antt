@@ -14,7 +14,7 @@ invariant-loop-element g l = record {
   frames : HasRoomFor object_pages l.records.staged;
   same : SameButObjects l.fn.records.tables l.records.tables;
   put : (elements : List Element) → AreElements elements l.self.objects.now → All (λ element. IsObject element.tag (length element.value)) elements
-      → (behind : List Element) × AreElements behind l.rest × ArePut l.fn.records.tables l.records.tables l.domain elements behind;
+      → (behind : List Element) × AreElements behind l.rest × ArePut l.fn.records.tables l.records.tables l.acting.domain elements behind;
 }
 
 abbrev pub decreases-loop-element : goal.decreases-loop-element
