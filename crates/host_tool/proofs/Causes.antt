@@ -14,7 +14,7 @@ use Rattle.script_tool.specs.Workload.{SaysSome}
 use Rattle.line_runs.specs.Exit.{exit_status}
 use Rattle.host_tool.proofs.Reached.{Reached}
 use Rattle.host_tool.specs.Ends.{HasEnded, HasExchanged, HostCause, HostCourse, IsGoodScript, NoneRefused, Streams, Tells, flows}
-use Rattle.host_tool.specs.Flush.{HostFlushes}
+use Rattle.host_tool.specs.Flush.{Flushed, HandedOn, HostFlushes}
 use Rattle.host_tool.specs.Ending.{host_ending}
 use Rattle.host_tool.specs.Takes.{Hosting, host_taker}
 use Rattle.line_runs.specs.declared.exit.Ending.{Ending}
@@ -93,20 +93,21 @@ module _ (writes : Type 0) (old : Streams) (script replies : SourceState) (comma
   flushed_cause Failed result (a, b, c) (flushed, inr (is, rose)) = rw is (risen c rose)
 
 -- a flush keeps an ending, or makes it a write fault
-pub flush_keeps : (writes : Type 0) (ending result : Ending) (old new : SinkState) → HostFlushes writes ending old new result → (result ≡ ending) ⊎ (result ≡ WriteFault)
-flush_keeps writes WriteFault result old new after = inr after.0
-flush_keeps writes Finished result old new (flushed, inl done) = inl done.0
-flush_keeps writes Finished result old new (flushed, inr refused) = inr refused.0
-flush_keeps writes Differs result old new (flushed, inl done) = inl done.0
-flush_keeps writes Differs result old new (flushed, inr refused) = inr refused.0
-flush_keeps writes BadLine result old new (flushed, inl done) = inl done.0
-flush_keeps writes BadLine result old new (flushed, inr refused) = inr refused.0
-flush_keeps writes Failed result old new (flushed, inl done) = inl done.0
-flush_keeps writes Failed result old new (flushed, inr refused) = inr refused.0
-flush_keeps writes ReadFault result old new (flushed, inl done) = inl done.0
-flush_keeps writes ReadFault result old new (flushed, inr refused) = inr refused.0
-flush_keeps writes InputTooLong result old new (flushed, inl done) = inl done.0
-flush_keeps writes InputTooLong result old new (flushed, inr refused) = inr refused.0
+module _ (writes : Type 0) (old new : SinkState) where
+  kept_or_not : {ending result : Ending}
+      → Flushed writes old new × (((result ≡ ending) × HandedOn writes old new) ⊎ ((result ≡ WriteFault) × Rose old.faults new.faults))
+      → (result ≡ ending) ⊎ (result ≡ WriteFault)
+  kept_or_not (flushed, inl done) = inl done.0
+  kept_or_not (flushed, inr refused) = inr refused.0
+
+  pub flush_keeps : (ending result : Ending) → HostFlushes writes ending old new result → (result ≡ ending) ⊎ (result ≡ WriteFault)
+  flush_keeps WriteFault result after = inr after.0
+  flush_keeps Finished result after = kept_or_not after
+  flush_keeps Differs result after = kept_or_not after
+  flush_keeps BadLine result after = kept_or_not after
+  flush_keeps Failed result after = kept_or_not after
+  flush_keeps ReadFault result after = kept_or_not after
+  flush_keeps InputTooLong result after = kept_or_not after
 
 -- no line is bad, and the script is short enough
 abbrev pub IsGood : Ending → Type 0

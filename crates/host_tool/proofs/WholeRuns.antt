@@ -64,4 +64,4 @@ module _ {S K : Type 0} (source : Source S) (sink : Sink K) (reads writes : Type
   host_done status is good short faultless =
       subst (λ (s : ℕ). (s ≡ 0) ⊎ (s ≡ 8) ⊎ (s ≡ 3)) (sym is)
       (script_done result old new
-      (good_result end last.differs last.link.why result good short (flush_keeps writes (host_ending end last.differs last.link.why) result now later after)) host_cause faultless)
+      (good_result end last.differs last.link.why result good short (flush_keeps writes now later (host_ending end last.differs last.link.why) result after)) host_cause faultless)
