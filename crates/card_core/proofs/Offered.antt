@@ -1,5 +1,5 @@
 -- The offer that a channel holds.
-use Rattle.std.proofs.Common.{◌≡◌, None, Some, refl}
+use Rattle.std.proofs.Common.{◌≡◌, None, Some, refl, subst}
 use Rattle.policy_machine.specs.Admission.{Admitted}
 use Rattle.policy_machine.specs.State.{Nothing, Offered, Secured, SecureChannel, offer_in, offer_on}
 use Rattle.scp03_card.specs.Kept.{KeptOffer, RepresentsOffer}
@@ -16,9 +16,10 @@ held_offer kept (Offered offer) holds = (offer, refl, holds)
 held_offer kept (Secured session) holds = absurd holds
 
 -- what the code holds stands for an offer of the model
-pub offer_here : (kept : KeptOffer) (admitted : Admitted) → RepresentsSecureChannel (held.Offered kept) (secure_channel_for admitted)
+pub offer_here : (now : ChannelSession) (kept : KeptOffer) → now ≡ held.Offered kept → (admitted : Admitted) → RepresentsSecureChannel now (secure_channel_for admitted)
     → (offer : Offer) × (offer_on admitted.at.volatile admitted.channel ≡ Some offer) × RepresentsOffer kept offer
-offer_here kept admitted holds = held_offer kept (secure_channel_for admitted) holds
+offer_here now kept is admitted holds =
+    held_offer kept (secure_channel_for admitted) (subst (λ (h : ChannelSession). RepresentsSecureChannel h (secure_channel_for admitted)) is holds)
 
 none_held : (now : ChannelSession) (secure_channel : SecureChannel) → RepresentsSecureChannel now secure_channel → (IsOffered now → ⊥) → offer_in secure_channel ≡ None
 none_held held.Nothing Nothing holds none = refl

@@ -1,16 +1,11 @@
-use Rattle.std.proofs.Common.{rules, ◌≡◌, refl, subst, ◌∙◌}
+use Rattle.std.proofs.Common.{rules, ◌≡◌, refl, ◌∙◌}
 use Rattle.card_core.proofs.Offered.{offer_here}
-use Rattle.card_core.specs.Kept.{RepresentsSecureChannel}
-use Rattle.card_core.specs.Offers.{secure_channel_for}
-use Rattle.card_core.specs.declared.channel_session.ChannelSession.{ChannelSession}
-use Rattle.card_core.specs.declared.channel_session.ChannelSession.TheVariants.{Offered}
 use Rattle.policy_machine.proofs.ExternalAuthenticateLaws.{answer_passes, wrong_cryptogram, wrong_mac}
 use Rattle.card_core.proofs.external_authenticate.external_authenticate.Goals as goal
 
 pub returns-in-Ok : goal.returns-in-Ok
 returns-in-Ok c = λ admitted request holds.
-    let was : c.args.held.now ≡ Offered c.in-Offered.offer = search rules in
-    let found = offer_here c.in-Offered.offer admitted (subst (λ (h : ChannelSession). RepresentsSecureChannel h (secure_channel_for admitted)) was holds) in
+    let found = offer_here c.args.held.now c.in-Offered.offer (search rules) admitted holds in
     let same : c.copy_from_slice.new.self ≡ admitted.command.body = c.copy_from_slice.ensures.after ∙ request.means.1 in (
       found.0,
       c.args.level,
@@ -23,8 +18,7 @@ returns-in-Ok c = λ admitted request holds.
 
 pub returns-in-Err-Cryptogram : goal.returns-in-Err-Cryptogram
 returns-in-Err-Cryptogram c = λ admitted request holds.
-    let was : c.args.held.now ≡ Offered c.in-Offered.offer = search rules in
-    let found = offer_here c.in-Offered.offer admitted (subst (λ (h : ChannelSession). RepresentsSecureChannel h (secure_channel_for admitted)) was holds) in
+    let found = offer_here c.args.held.now c.in-Offered.offer (search rules) admitted holds in
     let same : c.copy_from_slice.new.self ≡ admitted.command.body = c.copy_from_slice.ensures.after ∙ request.means.1 in (
       wrong_cryptogram admitted c.args.level c.copy_from_slice.new.self request.form request.means.0 same found.0 found.1
           (c.in-Err-Cryptogram.ensures.cryptogram found.0 found.2 (search rules)),
@@ -33,8 +27,7 @@ returns-in-Err-Cryptogram c = λ admitted request holds.
 
 pub returns-in-Err-Mac : goal.returns-in-Err-Mac
 returns-in-Err-Mac c = λ admitted request holds.
-    let was : c.args.held.now ≡ Offered c.in-Offered.offer = search rules in
-    let found = offer_here c.in-Offered.offer admitted (subst (λ (h : ChannelSession). RepresentsSecureChannel h (secure_channel_for admitted)) was holds) in
+    let found = offer_here c.args.held.now c.in-Offered.offer (search rules) admitted holds in
     let same : c.copy_from_slice.new.self ≡ admitted.command.body = c.copy_from_slice.ensures.after ∙ request.means.1 in (
       wrong_mac admitted c.args.level c.copy_from_slice.new.self request.form request.means.0 same found.0 found.1
           (c.in-Err-Mac.ensures.mac_alone found.0 found.2 (search rules)) (c.in-Err-Mac.ensures.mac found.0 found.2 (search rules)),
