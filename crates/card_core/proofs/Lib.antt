@@ -8,6 +8,7 @@ pub mod Carrying
 pub mod ChannelChanges
 pub mod Coming
 pub mod Confirming
+mod ControlInformation
 pub mod CounterRaised
 pub mod DeleteKeyDone
 pub mod Deleting

@@ -10,59 +10,30 @@ use crate::channel_session::ChannelSession;
 use crate::reply::{Answer, Reply};
 use apdu_core::Status;
 use arrayvec::ArrayVec;
-use bertlv::{Tlv, append};
 use card_types::{CardLife, Tables};
 use policy_rules::{CHANNELS, Live, Rule, judge_select};
 
 /// The tag of a template of file control information.
-const CONTROL_INFORMATION: u16 = 0x6F;
+const CONTROL_INFORMATION: u8 = 0x6F;
 
 /// The tag of the AID in it.
-const NAME: u16 = 0x84;
+const NAME: u8 = 0x84;
 
-/// The tag of proprietary data in it.
-const PROPRIETARY: u16 = 0xA5;
+/// What stands in it after the AID: the proprietary data, with the tag of the longest data field of a command and that length.
+const PROPRIETARY: [u8; 6] = [0xA5, 0x04, 0x9F, 0x65, 0x01, 0xFF];
 
-/// The tag of the longest data field of a command, in the proprietary data.
-const LONGEST_FIELD: u16 = 0x9F65;
-
-// The file control information of an entry.
+// The file control information of an entry. An AID is short, so each length has one byte.
 fn write_control_information(aid: &[u8], reply: &mut Reply)
     requires aid { length aid.now ≤ 16 }
     requires empty { reply.old.items ≡ [] }
     ensures written { IsControlInformation aid.now reply.new.items }
     ensures short { length reply.new.items ≤ 60 }
 {
-    let mut proprietary = ArrayVec::<u8, 8>::new();
-    append(
-        &Tlv {
-            tag: LONGEST_FIELD,
-            value: &[0xFF],
-        },
-        &mut proprietary,
-    );
-    let mut template = ArrayVec::<u8, 64>::new();
-    append(
-        &Tlv {
-            tag: NAME,
-            value: aid,
-        },
-        &mut template,
-    );
-    append(
-        &Tlv {
-            tag: PROPRIETARY,
-            value: &proprietary,
-        },
-        &mut template,
-    );
-    append(
-        &Tlv {
-            tag: CONTROL_INFORMATION,
-            value: &template,
-        },
-        reply,
-    );
+    let size = aid.len() as u8;
+    let front = [CONTROL_INFORMATION, size + 8, NAME, size];
+    reply.try_extend_from_slice(&front).unwrap();
+    reply.try_extend_from_slice(aid).unwrap();
+    reply.try_extend_from_slice(&PROPRIETARY).unwrap();
 }
 
 fn selected_status(card_life: CardLife) -> Status
