@@ -16,7 +16,7 @@ use Rattle.access_matrix.specs.Next.{HasDomain, HasEntry, HasFile, HasSpot, HasT
 use Rattle.access_matrix.specs.declared.act.Act.{Act}
 use Rattle.access_matrix.specs.declared.act.Act.TheVariants as slot
 use Rattle.access_matrix.proofs.Somes.{is_some, of_mapped}
-use Rattle.access_matrix.proofs.Places.{Paired, first_pair, next_first, next_second, none_first, none_wrapped, order_of_one, wrapped_next}
+use Rattle.access_matrix.proofs.Places.{Paired, first_pair, next_first, next_second, none_first, none_wrapped, order_of_alone, order_of_one, wrapped_next}
 
 of_name : {T : Type 0} (name : T → List ℕ) (o : Option T) → IsSome o → option_map name o ≡ Some (unwrap_or (option_map name o) [])
 of_name name None is = absurd cc
@@ -49,32 +49,49 @@ module _ (tables : Tables) where
   found_aid_is (found.Entry slot) aid is = ap (λ (o : Option (List ℕ)). unwrap_or o []) is
   found_aid_is (found.File slot) aid is = ap (λ (o : Option (List ℕ)). unwrap_or o []) is
 
+  -- The acts of a kind that name one thing come in the order of the things: the next act is that on the next thing, and there is none
+  -- where there is no next thing.
+  module _ {T : Type 0} (Has : T → List ℕ → Type 0) (kind : ℕ) (act : T → Act) where
+    abbrev pub FollowsThings : Type 0
+    FollowsThings = ((last : Option (List ℕ)) (thing : T) → IsNext Has aid_order last thing → IsNext (HasSpot tables kind) place_order (option_map alone last) (act thing))
+        × ((last : Option (List ℕ)) → NoneNext Has aid_order last → NoneNext (HasSpot tables kind) place_order (option_map alone last))
+
+    follows : ((thing : T) (aid : List ℕ) → Has thing aid → HasSpot tables kind (act thing) (alone aid))
+        → ((other : Act) (spot : List (List ℕ)) → HasSpot tables kind other spot → (thing : T) × (aid : List ℕ) × Has thing aid × (spot ≡ alone aid)) → FollowsThings
+    follows to of = (wrapped_next Has (HasSpot tables kind) alone act order_of_alone to of, none_wrapped Has (HasSpot tables kind) alone act order_of_alone to of)
+
   -- DELETE of things
-  pub to_delete : (thing : Found) (aid : List ℕ) → HasThing tables thing aid → HasSpot tables 0 (slot.Delete thing) (alone aid)
+  to_delete : (thing : Found) (aid : List ℕ) → HasThing tables thing aid → HasSpot tables 0 (slot.Delete thing) (alone aid)
   to_delete thing aid is = (is_some _ aid is, ap (λ (a : List ℕ). placed 0 (alone a)) (found_aid_is thing aid is))
 
-  pub of_delete : (act : Act) (spot : List (List ℕ)) → HasSpot tables 0 act spot → (thing : Found) × (aid : List ℕ) × HasThing tables thing aid × (spot ≡ alone aid)
+  of_delete : (act : Act) (spot : List (List ℕ)) → HasSpot tables 0 act spot → (thing : Found) × (aid : List ℕ) × HasThing tables thing aid × (spot ≡ alone aid)
   of_delete (slot.Delete thing) spot has = (thing, found_aid tables thing, thing_aid thing has.0, sym (same_spot _ _ _ _ has.1))
   of_delete _ spot has = absurd (omega (arith, same_kind _ _ _ _ has.1))
 
+  pub delete_follows : FollowsThings (HasThing tables) 0 slot.Delete
+  delete_follows = follows (HasThing tables) 0 slot.Delete to_delete of_delete
+
   -- DELETE of Executable Load Files
-  pub to_related : (file : ℕ) (aid : List ℕ) → HasFile tables file aid → HasSpot tables 1 (slot.Related file) (alone aid)
+  to_related : (file : ℕ) (aid : List ℕ) → HasFile tables file aid → HasSpot tables 1 (slot.Related file) (alone aid)
   to_related file aid is =
       (of_mapped (λ (f : LoadFile). f.aid) _ (is_some _ aid is), ap (λ (a : List ℕ). placed 1 (alone a)) (found_aid_is (found.File file) aid is))
 
-  pub of_related : (act : Act) (spot : List (List ℕ)) → HasSpot tables 1 act spot → (file : ℕ) × (aid : List ℕ) × HasFile tables file aid × (spot ≡ alone aid)
+  of_related : (act : Act) (spot : List (List ℕ)) → HasSpot tables 1 act spot → (file : ℕ) × (aid : List ℕ) × HasFile tables file aid × (spot ≡ alone aid)
   of_related (slot.Delete thing) spot has = absurd (omega (arith, same_kind _ _ _ _ has.1))
   of_related (slot.Related file) spot has =
       (file, file_aid tables.files.items file, of_name (λ (f : LoadFile). f.aid) (held tables.files.items file) has.0, sym (same_spot _ _ _ _ has.1))
   of_related (slot.Lock entry) spot has = absurd (omega (arith, same_kind _ _ _ _ has.1))
   of_related _ spot has = absurd (omega (arith, same_kind _ _ _ _ has.1))
 
+  pub related_follows : FollowsThings (HasFile tables) 1 slot.Related
+  related_follows = follows (HasFile tables) 1 slot.Related to_related of_related
+
   -- SET STATUS of entries
-  pub to_lock : (entry : ℕ) (aid : List ℕ) → HasEntry tables entry aid → HasSpot tables 2 (slot.Lock entry) (alone aid)
+  to_lock : (entry : ℕ) (aid : List ℕ) → HasEntry tables entry aid → HasSpot tables 2 (slot.Lock entry) (alone aid)
   to_lock entry aid is =
       (of_mapped (λ (e : Entry). e.aid) _ (is_some _ aid is), ap (λ (a : List ℕ). placed 2 (alone a)) (found_aid_is (found.Entry entry) aid is))
 
-  pub of_lock : (act : Act) (spot : List (List ℕ)) → HasSpot tables 2 act spot → (entry : ℕ) × (aid : List ℕ) × HasEntry tables entry aid × (spot ≡ alone aid)
+  of_lock : (act : Act) (spot : List (List ℕ)) → HasSpot tables 2 act spot → (entry : ℕ) × (aid : List ℕ) × HasEntry tables entry aid × (spot ≡ alone aid)
   of_lock (slot.Delete thing) spot has = absurd (omega (arith, same_kind _ _ _ _ has.1))
   of_lock (slot.Related file) spot has = absurd (omega (arith, same_kind _ _ _ _ has.1))
   of_lock (slot.Lock entry) spot has =
@@ -82,12 +99,15 @@ module _ (tables : Tables) where
   of_lock (slot.Move thing domain) spot has = absurd (omega (arith, same_kind _ _ _ _ has.1))
   of_lock _ spot has = absurd (omega (arith, same_kind _ _ _ _ has.1))
 
+  pub lock_follows : FollowsThings (HasEntry tables) 2 slot.Lock
+  lock_follows = follows (HasEntry tables) 2 slot.Lock to_lock of_lock
+
   -- INSTALL [for install and make selectable] from Executable Load Files
-  pub to_install : (file : ℕ) (aid : List ℕ) → HasFile tables file aid → HasSpot tables 4 (slot.Install file) (alone aid)
+  to_install : (file : ℕ) (aid : List ℕ) → HasFile tables file aid → HasSpot tables 4 (slot.Install file) (alone aid)
   to_install file aid is =
       (of_mapped (λ (f : LoadFile). f.aid) _ (is_some _ aid is), ap (λ (a : List ℕ). placed 4 (alone a)) (found_aid_is (found.File file) aid is))
 
-  pub of_install : (act : Act) (spot : List (List ℕ)) → HasSpot tables 4 act spot → (file : ℕ) × (aid : List ℕ) × HasFile tables file aid × (spot ≡ alone aid)
+  of_install : (act : Act) (spot : List (List ℕ)) → HasSpot tables 4 act spot → (file : ℕ) × (aid : List ℕ) × HasFile tables file aid × (spot ≡ alone aid)
   of_install (slot.Delete thing) spot has = absurd (omega (arith, same_kind _ _ _ _ has.1))
   of_install (slot.Related file) spot has = absurd (omega (arith, same_kind _ _ _ _ has.1))
   of_install (slot.Lock entry) spot has = absurd (omega (arith, same_kind _ _ _ _ has.1))
@@ -95,6 +115,9 @@ module _ (tables : Tables) where
   of_install (slot.Install file) spot has =
       (file, file_aid tables.files.items file, of_name (λ (f : LoadFile). f.aid) (held tables.files.items file) has.0, sym (same_spot _ _ _ _ has.1))
   of_install slot.Load spot has = absurd (omega (arith, same_kind _ _ _ _ has.1))
+
+  pub install_follows : FollowsThings (HasFile tables) 4 slot.Install
+  install_follows = follows (HasFile tables) 4 slot.Install to_install of_install
 
   -- INSTALL [for load]
   of_load : (act : Act) (spot : List (List ℕ)) → HasSpot tables 5 act spot → spot ≡ [] ∷ [] ∷ []
