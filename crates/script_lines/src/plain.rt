@@ -1,6 +1,6 @@
 //! Commands to send in a session (GlobalPlatform Amendment D, 6.2).
 
-ghost use Rattle.std.specs.Prelude.{◌≡◌, ◌↔◌, IsTrue, MatchOption};
+ghost use Rattle.std.specs.Prelude.{◌≡◌, ◌↔◌, [], IsTrue, MatchOption};
 ghost use Rattle.script_lines.specs.Prelude.{IsPlain, Reads, SaysSend, SpellsPlain, apdu_of, left, plain_of};
 ghost use Rattle.script_lines.specs.declared.plain.Plain.{Plain};
 
@@ -26,8 +26,10 @@ fn is_unprotected(class: u8) -> bool
 }
 
 impl Plain {
-    /// A command to read into.
-    pub fn new() -> Plain {
+    /// A command to read into, without a data field.
+    pub fn new() -> Plain
+        ensures { result.body.items ≡ [] }
+    {
         Plain {
             ins: 0x00,
             p1: 0x00,
