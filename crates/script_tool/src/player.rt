@@ -79,12 +79,14 @@ impl Player {
         let Some(()) = said.read(line.text) else {
             return Err(StepStop::Form(line.number));
         };
-        let printout = match play(&mut self.host, &mut self.wire, link, &said) {
-            Ok(printout) => printout,
-            Err(_) => return Err(StepStop::LinkFailed),
-        };
-        self.remember(&printout);
-        printout.write(said.is_quiet(), text);
-        Ok(printout.kind())
+        let played = play(&mut self.host, &mut self.wire, link, &said);
+        match &played {
+            Err(_) => Err(StepStop::LinkFailed),
+            Ok(printout) => {
+                self.remember(printout);
+                printout.write(said.is_quiet(), text);
+                Ok(printout.kind())
+            }
+        }
     }
 }

@@ -11,10 +11,7 @@ use Rattle.gp_tool.proofs.summary.spell_counter.Goals as goal
 pub returns-in-Some : goal.returns-in-Some
 returns-in-Some c page registry whole says well =
     let tables = c.args.tables.now in
-    let card = c.requires.cards page whole in
-    let of = card.of in
-    let layout = of.layout in
-    let issuer = issuer_held tables.entries.items layout.issuer in
+    let issuer = issuer_held tables.entries.items (c.requires.cards page whole).of.layout.issuer in
     let key = c.in-Some.set.thing.now in
     let uses = c.in-Some.ensures.some page registry issuer.0 says well issuer.1 in
     let found = counter_data page tables registry says well 0 issuer.0 issuer.1 key (domain_aid tables.entries.items key.owner, uses.0, uses.1) in
@@ -27,11 +24,7 @@ returns-in-Some c page registry whole says well =
 
 pub returns-in-None : goal.returns-in-None
 returns-in-None c page registry whole says well =
-    let tables = c.args.tables.now in
-    let card = c.requires.cards page whole in
-    let of = card.of in
-    let layout = of.layout in
-    let issuer = issuer_held tables.entries.items layout.issuer in
+    let issuer = issuer_held c.args.tables.now.entries.items (c.requires.cards page whole).of.layout.issuer in
     let none = c.in-None.ensures.none page registry issuer.0 says well issuer.1 in
     inr (
       λ value sequence.
