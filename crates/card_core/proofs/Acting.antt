@@ -5,30 +5,15 @@ use Rattle.std.specs.Prelude.{slice_index_or, slice_set}
 use Rattle.std.proofs.lemmas.List.{get_or_default}
 use Rattle.apdu_core.specs.declared.reply.Status.{Status}
 use Rattle.card_types.specs.declared.tables.Tables.{Tables}
-use Rattle.policy_machine.specs.Admission.{Admitted}
-use Rattle.policy_machine.specs.Commands.{TakesCommand}
-use Rattle.policy_machine.specs.ExternalAuthenticate.{external_authenticate}
-use Rattle.policy_machine.specs.InitializeUpdate.{initialize_update}
-use Rattle.policy_machine.specs.Step.{refusal_leaves}
+use Rattle.card_core.specs.Prelude.{ActsIn, Admitted, AnswersAs, AsksForLoad, CarriesOn, CarriesOutBut, Channel, HoldsFor, IsRequestOf, IsSameButPlace, KeepsSelected, Kept, KeptRepresents, Lists, LoadsAs, Manages, OffersAs, RepresentsChannels, RepresentsLoading, RepresentsSecureChannel, RepresentsSoundly, TakesCommand, Volatile, channel_at, channel_at_place, external_authenticate, held_on, initialize_update, live_refused, refusal_leaves, secure_channel_for, secure_channel_of, with_place, without_offer_held}
 use Rattle.policy_machine.proofs.Judging.{does_so}
 use Rattle.std.proofs.Common.{inl}
 use Rattle.std.proofs.lemmas.List.{get_or-set_same, length-set, set-set}
 use Rattle.policy_machine.proofs.SetChannel.{set_other, set_same}
-use Rattle.policy_machine.specs.GetStatus.{channel_at_place, with_place}
-use Rattle.policy_machine.specs.State.{Channel, Volatile, channel_at, secure_channel_of}
 use Rattle.policy_machine.specs.declared.channels.TheConstants.{CHANNELS}
 use Rattle.policy_machine.specs.declared.rule.Rule.{Rule}
-use Rattle.policy_rules.specs.Requests.{IsRequestOf}
 use Rattle.policy_slots.proofs.Selected.{selected_acts}
-use Rattle.policy_slots.specs.StateShown.{ActsIn}
 use Rattle.policy_slots.specs.declared.live.Live.{Live}
-use Rattle.card_core.specs.Kept.{RepresentsChannels, RepresentsSecureChannel, held_on, without_offer_held, Kept, KeptRepresents, RepresentsSoundly}
-use Rattle.card_core.specs.Lists.{IsSameButPlace, Lists}
-use Rattle.card_core.specs.Manages.{KeepsSelected, Manages}
-use Rattle.card_core.specs.Offers.{AnswersAs, HoldsFor, OffersAs, secure_channel_for}
-use Rattle.card_core.specs.Serves.{AsksForLoad, CarriesOn, CarriesOutBut, live_refused}
-use Rattle.card_core.specs.Loading.{RepresentsLoading}
-use Rattle.card_core.specs.Loads.{LoadsAs}
 use Rattle.load_session.specs.declared.session.LoadSession.{LoadSession}
 use Rattle.policy_rules.specs.declared.request.Request.{Request}
 use Rattle.std.specs.Prelude.{OnErr}

@@ -1,25 +1,18 @@
 -- The first of the general rules that fails, by what was found.
 use Rattle.std.proofs.Common.{◌≡◌, ◌≢◌, ◌⊎◌, ℕ, List, false, None, Some, refl, sym, ap, ◌∙◌, inl, inr}
 use Rattle.std.specs.Prelude.{is_none, slice_index_or}
-use Rattle.apdu_core.specs.Apdu.{Apdu, Short}
+use Rattle.card_core.specs.Prelude.{Apdu, GeneralFails, IsFirst, IsKnown, IsToApplication, Of, RepresentsState, Short, State, channel_at, channel_of, class_of, command_rules, entry_of, general_rules, is_domain_in, selected_on}
 use Rattle.card_types.proofs.EntryNames.{entry_in_slot}
 use Rattle.card_types.proofs.Domains.{domain_aid_is}
 use Rattle.card_types.specs.Registry.{Entry as NamedEntry, entry_named, is_domain}
-use Rattle.card_types.specs.Represents.{entry_of}
 use Rattle.card_types.specs.declared.tables.Tables.{Tables}
 use Rattle.policy_machine.proofs.Passing.{channel_is_low}
 use Rattle.policy_machine.proofs.OneOutcome.{of_one}
-use Rattle.policy_machine.specs.Admission.{GeneralFails, IsToApplication, Of, command_rules, general_rules}
-use Rattle.policy_machine.specs.Classes.{IsKnown, channel_of, class_of}
-use Rattle.policy_machine.specs.Refusal.{IsFirst}
-use Rattle.policy_machine.specs.State.{State, channel_at, selected_on}
 use Rattle.policy_machine.specs.declared.class.Class.{Class}
 use Rattle.policy_machine.specs.declared.instruction.TheConstants.{SELECT, MANAGE_CHANNEL}
 use Rattle.policy_machine.specs.declared.rule.RuleG.TheVariants.{G1, G2, G3, G4}
 use Rattle.policy_slots.proofs.Selected.{selected_entry}
-use Rattle.policy_slots.specs.StateShown.{RepresentsState}
 use Rattle.policy_slots.specs.declared.live.Live.{Live}
-use Rattle.card_core.specs.Domains.{is_domain_in}
 use Rattle.card_core.proofs.ChannelChanges.{none_selected, some_selected}
 
 module _ (page : ℕ → List ℕ) (tables : Tables) (live : Live) (state : State) (bytes : List ℕ) (command : Apdu) (says : RepresentsState page tables live state) (short : Short command bytes) where

@@ -4,24 +4,15 @@ use Rattle.std.specs.Prelude.{IfSome, count_by, not}
 use Rattle.std.specs.List.{list_any}
 use Rattle.std.proofs.lemmas.List.Elements.{Contains-append_left, Contains-append_right}
 use Rattle.std.proofs.lemmas.List.Sums.{sum_by-append, sum_by-cons}
-use Rattle.card_types.specs.KeySets.{HasKey}
-use Rattle.card_types.specs.Represents.{held}
+use Rattle.card_core.specs.Prelude.{Admitted, HasKey, HasRoomFor, KeepsAid, KeepsAids, KeepsConfirmer, KeepsRoom, KeepsSelected, MayReceipt, entry_pages, file_page, held, key_pages, object_pages, owner_pages, thing_page, thing_pages, with_staged}
 use Rattle.card_types.specs.declared.tables.Entry.{Entry}
 use Rattle.card_types.specs.declared.found.Found.{Found}
 use Rattle.card_types.specs.declared.found.Found.TheVariants as Thing
 use Rattle.card_types.specs.declared.tables.KeyRec.{KeyRec}
 use Rattle.card_types.specs.declared.tables.Tables.{Tables}
-use Rattle.policy_machine.specs.Admission.{Admitted}
-use Rattle.policy_slots.specs.HoldersFound.{MayReceipt}
 use Rattle.policy_slots.specs.declared.live.Live.{Live}
 use Rattle.policy_slots.specs.declared.live.LoadName.{LoadName}
 use Rattle.card_core.proofs.EntryCards.{KeepsNumbers, may_still, receipts_kept}
-use Rattle.card_core.specs.Confirms.{KeepsConfirmer}
-use Rattle.card_core.specs.Manages.{KeepsAid, KeepsAids, KeepsSelected}
-use Rattle.rec_store.specs.Keeper.{key_pages}
-use Rattle.rec_store.specs.Places.{file_page}
-use Rattle.rec_store.specs.Room.{HasRoomFor, with_staged}
-use Rattle.registry.specs.Pages.{KeepsRoom, entry_pages, object_pages, owner_pages, thing_page, thing_pages}
 
 -- what is selected stays where each entry does
 pub aids_selected : (live : Live) (before after : List (Option Entry)) → KeepsAids before after → KeepsSelected live before after

@@ -3,31 +3,16 @@ use Rattle.std.proofs.Common.{◌≡◌, ℕ, List, [], ◌∷◌, Option, None,
 use Rattle.std.specs.Option.{option_map}
 use Rattle.std.specs.Prelude.{IsSome, unwrap_or}
 use Rattle.card_types.proofs.Domains.{domain_aid_is}
-use Rattle.card_types.specs.Found.{aid_of}
-use Rattle.card_types.specs.Registry.{Registry, Entry}
-use Rattle.card_types.specs.RegistryChange.{IsEntryAdded, moved, with_life}
-use Rattle.card_types.specs.Represents.{Represents, domain_aid, entry_of, file_aid, held}
+use Rattle.card_core.specs.Prelude.{ActsIn, Admitted, BecomesAsAsked, Entry, FindsMove, IsDeletionOf, IsEntryAdded, IsExtraditionOf, IsInstallOf, IsInstalledWith, IsSelectableOf, Registry, Represents, aid_of, domain_aid, domain_of_thing, entry_made, entry_of, file_aid, held, managed_delete_object, managed_extradition, managed_install, managed_selectable, moved, slot_made, with_life, without_thing}
 use Rattle.card_types.specs.declared.found.Found.TheVariants as found
 use Rattle.card_types.specs.declared.tables.Entry.{Entry as Slot}
 use Rattle.card_types.specs.declared.tables.Tables.{Tables}
-use Rattle.content_rules.specs.DeleteObjectRequests.{IsDeletionOf}
-use Rattle.content_rules.specs.ExtraditionRequests.{FindsMove, IsExtraditionOf}
-use Rattle.content_rules.specs.InstallApplicationRequests.{IsInstallOf}
-use Rattle.content_rules.specs.MakeSelectableRequests.{IsInstalledWith, IsSelectableOf}
 use Rattle.content_rules.specs.declared.delete_object.DeletionRequest.{DeletionRequest}
 use Rattle.content_rules.specs.declared.extradition.Extradition.{Extradition}
 use Rattle.content_rules.specs.declared.extradition.ExtraditionRequest.{ExtraditionRequest}
 use Rattle.content_rules.specs.declared.install_application.InstallRequest.{InstallRequest}
 use Rattle.content_rules.specs.declared.make_selectable.SelectableRequest.{SelectableRequest}
 use Rattle.policy_machine.proofs.MakeSelectableLaws.{selectable_life}
-use Rattle.policy_machine.specs.Admission.{Admitted}
-use Rattle.policy_machine.specs.DeleteObject.{managed_delete_object, without_thing}
-use Rattle.policy_machine.specs.Extradition.{domain_of_thing, managed_extradition}
-use Rattle.policy_machine.specs.InstallApplication.{entry_made, managed_install}
-use Rattle.policy_machine.specs.MakeSelectable.{managed_selectable}
-use Rattle.policy_slots.specs.StateShown.{ActsIn}
-use Rattle.card_core.specs.Installs.{slot_made}
-use Rattle.card_core.specs.ConfirmedForms.{BecomesAsAsked}
 
 -- what has an AID is there
 pub named_there : {T : Type 0} (name : T → List ℕ) (thing : Option T) (aid : List ℕ) → option_map name thing ≡ Some aid → IsSome thing

@@ -1,13 +1,10 @@
 -- Tables in which the card is in another life cycle state.
 use Rattle.std.proofs.Common.{◌≡◌, ℕ, List, length, refl, ap, sym, subst}
 use Rattle.card_types.proofs.LifeChanges.{card_life_keeps}
-use Rattle.card_types.specs.Registry.{Registry}
-use Rattle.card_types.specs.RegistryChange.{with_card_life}
-use Rattle.card_types.specs.Represents.{Represents}
+use Rattle.card_core.specs.Prelude.{AreCards, Registry, Represents, with_card_life}
 use Rattle.card_types.specs.declared.card_life.CardLife.{CardLife}
 use Rattle.card_types.specs.declared.tables.Tables.{Tables}
 use Rattle.card_core.proofs.Cards.{cards_after}
-use Rattle.card_core.specs.Kept.{AreCards}
 
 module _ (before after : Tables) (life : CardLife) (is : after ≡ record before { life = life }) where
   pub card_life_says : (page : ℕ → List ℕ) (said : Registry) → Represents page before said → Represents page after (with_card_life said life)

@@ -3,13 +3,8 @@ use Rattle.std.proofs.Common.{◌≡◌, ℕ, ◌<◌, List, true, Option, Some,
 use Rattle.std.specs.Prelude.{MatchOption, All, map, nat_eq}
 use Rattle.std.specs.List.{IsDistinct, concat}
 use Rattle.std.proofs.lemmas.List.{length-replicate, length-set}
-use Rattle.card_check.specs.IsCard.{HasPages, IsInLoadPages, pages_named}
+use Rattle.card_core.specs.Prelude.{AreCards, HasIssuer, HasPages, IsInLoadPages, IsInOrder, Registry, Represents, SetsKey, Well, domain_aid, held, keeps_counter, pages_named, raised, raised_key, used}
 use Rattle.card_types.proofs.DrawnCounter.{drawn_says, drawn_well}
-use Rattle.card_types.specs.Counters.{raised, raised_key}
-use Rattle.card_types.specs.Represents.{IsInOrder, HasIssuer, Represents, domain_aid, keeps_counter, used, held}
-use Rattle.card_types.specs.Registry.{Registry}
-use Rattle.card_types.specs.SlotChange.{SetsKey}
-use Rattle.card_types.specs.Well.{Well}
 use Rattle.card_types.specs.declared.factory.TheConstants.{FACTORY_FILE}
 use Rattle.card_types.specs.declared.limits.TheConstants.{COUNTER_LIMIT}
 use Rattle.card_types.specs.declared.tables.Entry.{Entry}
@@ -17,7 +12,6 @@ use Rattle.card_types.specs.declared.tables.KeyRec.{KeyRec}
 use Rattle.card_types.specs.declared.tables.LoadFile.{LoadFile}
 use Rattle.card_types.specs.declared.tables.Object.{Object}
 use Rattle.card_types.specs.declared.tables.Tables.{Tables}
-use Rattle.card_core.specs.Kept.{AreCards}
 
 pub in_order : (tables : Tables) → AreCards tables → IsInOrder tables
 in_order tables cards =

@@ -3,17 +3,10 @@ use Rattle.std.proofs.Common.{◌≡◌, ℕ, ◌<◌, List, [], Bool, true, fal
 use Rattle.std.specs.Prelude.{if◌then◌else◌, slice_index_or, slice_set}
 use Rattle.std.specs.Result.{IsErrAnd}
 use Rattle.apdu_core.specs.declared.reply.Status.{Status}
-use Rattle.policy_machine.specs.Admission.{Admitted}
-use Rattle.policy_machine.specs.Commands.{Judges}
-use Rattle.policy_machine.specs.Step.{keeps_load, refusal_leaves}
-use Rattle.policy_machine.specs.State.{Volatile, with_offer_dropped, without_load}
+use Rattle.card_core.specs.Prelude.{Admitted, CarriesOut, CarriesOutBut, Judges, Kept, KeptRepresents, LoadsBy, RepresentsLoading, Volatile, keeps_load, live_refused, live_without_load, refusal_leaves, refused_at, with_offer_dropped, without_load, without_offer_held}
 use Rattle.policy_machine.specs.declared.channels.TheConstants.{CHANNELS}
 use Rattle.policy_machine.specs.declared.rule.Rule.{Rule}
-use Rattle.policy_slots.specs.LiveEnds.{live_without_load}
 use Rattle.policy_slots.specs.declared.live.Live.{Live}
-use Rattle.card_core.specs.Kept.{without_offer_held, Kept, KeptRepresents}
-use Rattle.card_core.specs.Serves.{CarriesOut, CarriesOutBut, LoadsBy, live_refused, refused_at}
-use Rattle.card_core.specs.Loading.{RepresentsLoading}
 use Rattle.card_types.specs.declared.tables.Tables.{Tables}
 use Rattle.load_session.specs.declared.session.LoadSession.{LoadSession}
 use Rattle.card_core.proofs.LoadsKept.{refusal_loading}

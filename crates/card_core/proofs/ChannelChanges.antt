@@ -3,31 +3,18 @@ use Rattle.std.proofs.Common.{◌≡◌, ℕ, ◌<◌, List, Bool, true, false, 
 use Rattle.std.specs.Prelude.{IfSome, MatchOption, is_none, slice_index_or, slice_set, if◌then◌else◌, ◌==◌}
 use Rattle.std.specs.Option.{option_map}
 use Rattle.std.proofs.lemmas.List.{set-get_or}
-use Rattle.apdu_core.specs.Apdu.{Apdu}
+use Rattle.card_core.specs.Prelude.{Apdu, Channel, HasIssuer, HasLayout, IsDomainNamed, IsLoadNamed, IsSelectedIn, IsSound, IsWellLoad, KeepsAid, KeepsSelected, Kept, KeptRepresents, LoadSession, Nothing, Offered, Registry, Represents, RepresentsSecureChannel, RepresentsState, SecureChannel, Secured, State, Volatile, Well, channel_at, channel_of, channel_passed, channel_with, fresh, held, held_passed, kept_of_others, live_passed, live_with_channel, live_without_load, live_without_place, load_without_channel, lowest_closed, place_in, place_of, secure_channel_of, session_passed, with_channel, with_offer_dropped, with_secure_channel, without_load, without_offer, without_offer_held, without_place}
 use Rattle.card_types.proofs.Domains.{domain_aid_is, domain_named_is_used}
-use Rattle.card_types.specs.Represents.{HasIssuer, HasLayout, Represents, held}
-use Rattle.card_types.specs.Registry.{Registry}
-use Rattle.card_types.specs.Well.{IsDomainNamed, Well}
 use Rattle.card_types.specs.declared.factory.TheConstants.{ISSUER}
 use Rattle.card_types.specs.declared.tables.Entry.{Entry}
 use Rattle.card_types.specs.declared.tables.TheConstants.{ISSUER_SLOT}
 use Rattle.card_types.specs.declared.tables.Tables.{Tables}
 use Rattle.policy_machine.proofs.SetChannel.{lowest_is_closed}
-use Rattle.policy_machine.specs.Admission.{channel_passed, without_place, session_passed}
-use Rattle.policy_machine.specs.Classes.{channel_of}
-use Rattle.policy_machine.specs.ManageChannel.{lowest_closed}
-use Rattle.policy_machine.specs.Sound.{IsSound, IsWellLoad}
-use Rattle.policy_machine.specs.State.{State, Channel, LoadSession, Nothing, Offered, Secured, SecureChannel, Volatile, channel_at, fresh, load_without_channel, place_in, secure_channel_of, channel_with, with_channel, with_offer_dropped, with_secure_channel, without_load, without_offer}
 use Rattle.policy_machine.specs.declared.instruction.TheConstants.{LOAD}
 use Rattle.policy_machine.specs.declared.channels.TheConstants.{CHANNELS}
-use Rattle.policy_slots.specs.StateShown.{place_of, IsLoadNamed, IsSelectedIn, RepresentsState}
-use Rattle.policy_slots.specs.LiveEnds.{kept_of_others, live_with_channel, live_without_load, live_without_place}
 use Rattle.policy_slots.specs.declared.live.Live.{Live}
 use Rattle.policy_slots.specs.declared.live.LoadName.{LoadName}
 use Rattle.policy_slots.specs.declared.live.Place.{Place as KeptPlace}
-use Rattle.card_core.specs.Kept.{RepresentsSecureChannel, held_passed, without_offer_held, Kept, KeptRepresents}
-use Rattle.card_core.specs.Manages.{KeepsAid, KeepsSelected}
-use Rattle.card_core.specs.Serves.{live_passed}
 use Rattle.card_core.specs.declared.channel_session.ChannelSession.{ChannelSession}
 use Rattle.card_core.specs.declared.channel_session.ChannelSession.TheVariants as held
 use Rattle.card_core.proofs.SetAt.{IsSetAt, none_at, same_at, set_at, set_each}

@@ -3,39 +3,23 @@ use Rattle.std.proofs.Common.{◌≡◌, ◌⊎◌, ℕ, ◌<◌, List, true, fa
 use Rattle.std.specs.Prelude.{Contains, IfErr, IfSome, slice_index_or, slice_set, take, ◌++◌, ◌==◌}
 use Rattle.std.specs.Result.{IsErrAnd}
 use Rattle.std.proofs.lemmas.List.{set-set}
-use Rattle.apdu_core.specs.Apdu.{Apdu, Short, apdu_of}
-use Rattle.apdu_core.specs.Reply.{status_bytes}
+use Rattle.card_core.specs.Prelude.{Admitted, Apdu, Bars, CarriesOutLoading, ForPassed, GeneralFails, HasCome, HasPages, IsFirst, IsInSession, IsKnown, IsOpenedIn, IsPassed, IsPassedOver, IsPlainManagement, IsTerminatedFor, Kept, Opens, OpensAs, Passes, RepresentsAll, RepresentsLoading, RepresentsSecureChannel, RepresentsSoundly, SecureChannel, Secured, Serves, ServesLoading, Session, Short, State, accepting, admitted_as, apdu_of, channel_at, channel_of, class_of, class_passed, command_rules, held_on, held_passed, in_plain, is_protected, kept_of, live_passed, live_without_load, live_without_place, managing, plain_of, protected, rule_of, secure_channel_of, sent, status_bytes, status_word, with_due}
 use Rattle.apdu_core.specs.declared.reply.Status.{Status}
-use Rattle.card_check.specs.IsCard.{HasPages}
 use Rattle.card_types.specs.declared.card_life.CardLife.{CardLife}
 use Rattle.card_types.specs.declared.tables.Tables.{Tables}
 use Rattle.load_session.specs.declared.session.LoadSession.{LoadSession}
-use Rattle.scp03_card.specs.Opens.{Opens, accepting}
-use Rattle.scp03_card.specs.Protected.{protected}
-use Rattle.scp03_card.specs.Session.{Session}
 use Rattle.policy_machine.proofs.Passing.{channel_is_low}
-use Rattle.policy_machine.specs.Admission.{Admitted, GeneralFails, admitted_as, class_passed, command_rules, in_plain}
-use Rattle.policy_machine.specs.Classes.{IsKnown, IsPlainManagement, channel_of, class_of, is_protected, managing}
-use Rattle.policy_machine.specs.Refusal.{IsFirst}
-use Rattle.policy_machine.specs.State.{State, Secured, SecureChannel, channel_at, secure_channel_of}
-use Rattle.policy_machine.specs.Step.{sent}
 use Rattle.policy_machine.specs.declared.instruction.TheConstants.{EXTERNAL_AUTHENTICATE, GET_DATA, GET_STATUS}
 use Rattle.policy_machine.specs.declared.channels.TheConstants.{CHANNELS}
 use Rattle.policy_machine.specs.declared.rule.Rule.{Rule}
 use Rattle.policy_machine.specs.declared.rule.Rule.TheVariants.{G}
 use Rattle.policy_machine.specs.declared.rule.RuleG.{RuleG}
 use Rattle.policy_machine.specs.declared.rule.RuleG.TheVariants.{G5, G6}
-use Rattle.policy_slots.specs.LiveEnds.{live_without_load, live_without_place}
 use Rattle.policy_slots.specs.declared.live.Live.{Live}
 use Rattle.policy_slots.specs.declared.live.Place.{Place}
 use Rattle.card_core.proofs.LoadsKept.{admitted_loading}
 use Rattle.card_core.proofs.Passed.{goes_on, holds_passed, managed_served, opened_so, opened_stands, over_served, passed_held, place_told, plain_stands, read_at, refused_served, session_of, written_at}
 use Rattle.card_core.proofs.Serving.{admits_opened, admits_plain, carried_out, protected_one}
-use Rattle.card_core.specs.Kept.{Kept, RepresentsSoundly, kept_of, IsInSession, RepresentsSecureChannel, held_on, held_passed}
-use Rattle.card_core.specs.Loading.{RepresentsAll, RepresentsLoading, with_due}
-use Rattle.card_core.specs.Passes.{Bars, HasCome, IsOpenedIn, Passes, plain_of}
-use Rattle.card_core.specs.Secured.{OpensAs}
-use Rattle.card_core.specs.Serves.{CarriesOutLoading, ForPassed, IsPassed, IsPassedOver, IsTerminatedFor, Serves, ServesLoading, live_passed, rule_of, status_word}
 use Rattle.card_core.specs.declared.admit.Received.{Received}
 use Rattle.card_core.specs.declared.channel_session.ChannelSession.{ChannelSession}
 use Rattle.card_core.specs.declared.channel_session.ChannelSession.TheVariants as held

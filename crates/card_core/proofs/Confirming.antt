@@ -5,23 +5,14 @@ use Rattle.std.proofs.lemmas.Bool.{and_parts, eqb-true}
 use Rattle.card_types.proofs.Domains.{domain_aid_is}
 use Rattle.card_types.proofs.ObjectNames.{object_in_slot, object_unnamed}
 use Rattle.card_types.proofs.SetNames.{has_from_held, has_key_named}
-use Rattle.card_types.specs.Registry.{Registry, object_named}
-use Rattle.card_types.specs.RegistryChange.{with_receipts}
-use Rattle.card_types.specs.Represents.{Represents, domain_aid, entry_of, key_of, object_of, held}
+use Rattle.card_core.specs.Prelude.{Admitted, AnswersFor, Effect, FindsConfirmer, HasChanged, IsAnswered, IsAnsweredBy, IsReceiptIn, IsReceipterIn, IsUniqueIn, IsValueIn, KeepsNumber, Registry, Represents, domain_aid, entry_of, held, is_tagged_in, key_of, object_named, object_of, receipt, unconfirmed, unique_data, value_of, with_receipts}
 use Rattle.card_types.specs.declared.factory.TheConstants.{ISSUER}
 use Rattle.card_types.specs.declared.limits.TheConstants.{RECEIPT_LIMIT}
 use Rattle.card_types.specs.declared.tables.Entry.{Entry}
 use Rattle.card_types.specs.declared.tables.Object.{Object}
 use Rattle.card_types.specs.declared.tables.Tables.{Tables}
 use Rattle.card_types.specs.declared.tables.TheConstants.{ISSUER_SLOT}
-use Rattle.policy_machine.specs.Admission.{Admitted}
-use Rattle.policy_machine.specs.Delegation.{IsAnswered, unique_data, value_of, unconfirmed}
-use Rattle.policy_slots.specs.ObjectsHeld.{is_tagged_in}
-use Rattle.policy_machine.specs.State.{Effect}
 use Rattle.policy_slots.proofs.NearestHolder.{slot_named}
-use Rattle.policy_slots.specs.HoldersFound.{FindsConfirmer, IsReceipterIn}
-use Rattle.tokens_receipts.specs.Receipt.{receipt}
-use Rattle.card_core.specs.Confirms.{AnswersFor, HasChanged, IsAnsweredBy, IsReceiptIn, IsUniqueIn, IsValueIn, KeepsNumber}
 
 -- what a used slot holds
 pub entry_in : (entries : List (Option Entry)) (slot : ℕ) (P : Entry → Type 0) → MatchOption (held entries slot) ⊥ P

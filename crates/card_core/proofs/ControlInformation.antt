@@ -1,8 +1,6 @@
 -- The file control information of an entry, byte by byte.
 use Rattle.std.proofs.Common.{◌≡◌, ℕ, ◌+◌, ◌<◌, ◌≤◌, List, [], ◌∷◌, ◌++◌, length, length-append, refl, arith, subst}
-use Rattle.bertlv.specs.Spelling.{Spelling}
-use Rattle.bertlv.specs.Tag.{TagGoesOn}
-use Rattle.policy_machine.specs.Select.{IsControlInformation}
+use Rattle.card_core.specs.Prelude.{IsControlInformation, Spelling, TagGoesOn}
 
 -- the tag of the longest data field of a command, with that length
 abbrev longest_field : List ℕ

@@ -2,19 +2,11 @@
 use Rattle.std.proofs.Common.{◌≡◌, ℕ, ◌<◌, ◌∙◌, List, true, Some, sym, subst}
 use Rattle.std.specs.Prelude.{slice_set}
 use Rattle.card_types.proofs.DrawnCounter.{drawn_next, drawn_says, drawn_well}
-use Rattle.card_types.specs.Counters.{HasNextCounter, raised, raised_key}
-use Rattle.card_types.specs.Registry.{Registry}
-use Rattle.card_types.specs.Represents.{Represents, domain_aid, keeps_counter, held}
-use Rattle.card_types.specs.SlotChange.{SetsKey}
-use Rattle.card_types.specs.Well.{Well}
+use Rattle.card_core.specs.Prelude.{AreCards, Contents, HasNextCounter, Raises, Registry, Represents, SameElse, SetsKey, Well, domain_aid, held, keeps_counter, raised, raised_key}
 use Rattle.card_types.specs.declared.limits.TheConstants.{COUNTER_LIMIT}
 use Rattle.card_types.specs.declared.tables.KeyRec.{KeyRec}
 use Rattle.card_types.specs.declared.tables.Tables.{Tables}
-use Rattle.key_sets.specs.Draws.{Raises}
-use Rattle.rec_store.specs.Contents.{Contents}
-use Rattle.rec_store.specs.Keeper.{SameElse}
 use Rattle.card_core.proofs.Cards.{drawn_cards}
-use Rattle.card_core.specs.Kept.{AreCards}
 
 some_is : {A : Type 0} (a b : A) → Some a ≡ Some b → a ≡ b
 some_is a b same = cc

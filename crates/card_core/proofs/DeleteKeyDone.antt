@@ -7,22 +7,13 @@ use Rattle.std.proofs.lemmas.Bool.{and_parts, eqb-true}
 use Rattle.std.proofs.lemmas.List.Sorted.{IsPermutation-map, IsPermutation-trans}
 use Rattle.card_types.proofs.Domains.{key_owner_is_used}
 use Rattle.card_types.proofs.Shows.{held_from_used}
-use Rattle.card_types.specs.Registry.{Registry}
-use Rattle.card_types.specs.Represents.{Represents, counter_of, domain_aid, keeps_counter, key_of, used, held}
-use Rattle.card_types.specs.Well.{Well}
+use Rattle.card_core.specs.Prelude.{AreCards, Contents, Deletes, Registry, Represents, SameElse, Well, counter_of, counters_but, domain_aid, has_version, held, is_of, keeps_counter, key_of, keys_but, staying, used}
 use Rattle.card_types.specs.declared.tables.Entry.{Entry}
 use Rattle.card_types.specs.declared.tables.KeyRec.{KeyRec}
-use Rattle.key_rules.specs.PutFails.{has_version}
-use Rattle.key_rules.specs.Staying.{is_of, staying}
-use Rattle.key_sets.specs.Puts.{Deletes}
 use Rattle.policy_machine.proofs.DeleteKeyKeeps.{without_version, without_version_ascending, without_version_well}
 use Rattle.policy_machine.proofs.Filtered.{filter_same, there_any}
-use Rattle.policy_machine.specs.KeySets.{counters_but, keys_but}
 use Rattle.policy_slots.proofs.KeysByName.{counters_staying, keys_staying}
-use Rattle.rec_store.specs.Contents.{Contents}
-use Rattle.rec_store.specs.Keeper.{SameElse}
 use Rattle.card_core.proofs.KeysSaid.{changed_cards, keys_said}
-use Rattle.card_core.specs.Kept.{AreCards}
 
 module _ {F : Type 0} (old new : Contents F) (same : SameElse old new) (owner version : ℕ)
     (deletes : Deletes owner version old.tables.keys.items new.tables.keys.items) where

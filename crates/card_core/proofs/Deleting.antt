@@ -5,11 +5,8 @@ use Rattle.std.specs.Option.{option_map}
 use Rattle.card_check.proofs.CardNames.{file_aid_is}
 use Rattle.card_types.proofs.Domains.{loaded_file_is_used}
 use Rattle.card_types.proofs.EntryNames.{entry_in_slot}
-use Rattle.card_types.specs.KeySets.{HasKey, IsKeyOf}
-use Rattle.card_types.specs.Represents.{HasIssuer, Represents, entry_of, file_aid, held}
+use Rattle.card_core.specs.Prelude.{ActsIn, Admitted, HasIssuer, HasKey, IsAlone, IsIssuerDomain, IsKeyOf, IsReceipterIn, IsRemovable, IsToGoIn, IsUnselected, KeepsAid, KeepsNumber, KeepsReceipts, KeepsSelected, LeavesOthers, MayReceipt, Represents, Well, entry_named, entry_of, file_aid, held}
 use Rattle.card_types.specs.Registry as registry
-use Rattle.card_types.specs.Registry.{entry_named}
-use Rattle.card_types.specs.Well.{IsIssuerDomain, Well}
 use Rattle.card_types.specs.declared.factory.TheConstants.{FACTORY_FILE, ISSUER}
 use Rattle.card_types.specs.declared.found.Found.{Found}
 use Rattle.card_types.specs.declared.found.Found.TheVariants as Thing
@@ -18,18 +15,11 @@ use Rattle.card_types.specs.declared.tables.KeyRec.{KeyRec}
 use Rattle.card_types.specs.declared.tables.LoadFile.{LoadFile}
 use Rattle.card_types.specs.declared.tables.Tables.{Tables}
 use Rattle.card_types.specs.declared.tables.TheConstants.{ISSUER_SLOT}
-use Rattle.policy_machine.specs.Admission.{Admitted}
 use Rattle.content_rules.proofs.ReceipterKept.{receipter_has_others}
-use Rattle.content_rules.specs.DeleteObjectFound.{IsAlone, IsRemovable, IsToGoIn, IsUnselected}
-use Rattle.policy_slots.specs.StateShown.{ActsIn}
-use Rattle.policy_slots.specs.HoldersFound.{IsReceipterIn, MayReceipt}
 use Rattle.policy_slots.specs.declared.live.Live.{Live}
 use Rattle.policy_slots.specs.declared.live.LoadName.{LoadName}
 use Rattle.card_core.proofs.Confirming.{entry_in}
 use Rattle.card_core.proofs.EntryCards.{may_still}
-use Rattle.card_core.specs.Confirms.{KeepsNumber, KeepsReceipts}
-use Rattle.card_core.specs.Deletes.{LeavesOthers}
-use Rattle.card_core.specs.Manages.{KeepsAid, KeepsSelected}
 
 -- who confirms a command is the domain of something else, and so is not to go
 pub confirmer_stays : (page : ℕ → List ℕ) (tables : Tables) (domain : ℕ) (admitted : Admitted) → ActsIn page tables domain admitted → (related : Bool) (thing : Found)

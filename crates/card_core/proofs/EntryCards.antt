@@ -6,13 +6,8 @@ use Rattle.std.specs.Option.{option_map}
 use Rattle.std.proofs.lemmas.Bool.{cases_eq}
 use Rattle.std.proofs.lemmas.List.{get_or-set_other, get_or-set_same, length-set}
 use Rattle.std.proofs.lemmas.List.Elements.{All-cons, All-head, All-tail}
-use Rattle.card_check.specs.IsCard.{IsInLoadPages, pages_named}
+use Rattle.card_core.specs.Prelude.{AddsEntry, AreCards, ChangesEntry, HasIssuer, HasKey, IsInLoadPages, KeepsAids, KeepsNumber, KeepsReceipts, MayReceipt, Moves, Registry, Represents, SetsEntry, Well, held, pages_named, used}
 use Rattle.card_types.proofs.DrawnCounter.{held_within}
-use Rattle.card_types.specs.KeySets.{HasKey}
-use Rattle.card_types.specs.Represents.{HasIssuer, Represents, used, held}
-use Rattle.card_types.specs.Registry.{Registry}
-use Rattle.card_types.specs.SlotChange.{SetsEntry}
-use Rattle.card_types.specs.Well.{Well}
 use Rattle.card_types.specs.declared.factory.TheConstants.{ISSUER}
 use Rattle.card_types.specs.declared.found.Found.{Found}
 use Rattle.card_types.specs.declared.found.Found.TheVariants as found
@@ -24,12 +19,6 @@ use Rattle.card_types.specs.declared.tables.Object.{Object}
 use Rattle.card_types.specs.declared.tables.Tables.{Tables}
 use Rattle.card_types.specs.declared.tables.TheConstants.{ISSUER_SLOT}
 use Rattle.card_core.proofs.Cards.{AreFiles, IsFactoryIn, cards_from}
-use Rattle.card_core.specs.Confirms.{KeepsNumber, KeepsReceipts}
-use Rattle.card_core.specs.Kept.{AreCards}
-use Rattle.card_core.specs.Manages.{KeepsAids}
-use Rattle.policy_slots.specs.HoldersFound.{MayReceipt}
-use Rattle.registry.specs.Adding.{AddsEntry}
-use Rattle.registry.specs.Setting.{ChangesEntry, Moves}
 
 module _ (slots : List (Option Entry)) (slot : ℕ) (new : Option Entry) (slots' : List (Option Entry)) (set : slots' ≡ slice_set slots slot new) where
   still : (other : ℕ) (entry : Entry) → other ≢ slot → held slots other ≡ Some entry → held slots' other ≡ Some entry

@@ -11,17 +11,12 @@ use Rattle.std.proofs.lemmas.List.Sorted.{All-permutation, IsPermutation-append_
 use Rattle.std.proofs.lemmas.List.Sums.{sum_by-cons}
 use Rattle.std.proofs.lemmas.Map.Keys.{IsDistinct-IsPermutation, IsDistinct-cons, IsDistinct-head, IsDistinct-tail}
 use Rattle.std.proofs.ByRecursion.{All-append}
-use Rattle.card_check.specs.IsCard.{HasPages, IsInLoadPages, pages_named}
-use Rattle.card_check.specs.LoadPages.{HasPageNumbers, all_pages}
+use Rattle.card_core.specs.Prelude.{AddsFile, AreCards, AreOwn, HasIssuer, HasPageNumbers, HasPages, IsAid, IsFileAdded, IsFree, IsInLoadPages, NoneHas, Represents, Well, all_pages, file_of, held, is_domain_in, pages_in, pages_named, pages_of, used}
 use Rattle.card_types.proofs.AddedThing.{file_added_keeps}
 use Rattle.card_types.proofs.ChangedSlot.{set_shown}
 use Rattle.card_types.proofs.FoundNames.{none_found_none_named}
 use Rattle.card_types.proofs.Room.{file_room}
-use Rattle.card_types.specs.Aid.{IsAid}
-use Rattle.card_types.specs.Represents.{HasIssuer, Represents, file_of, used, held}
 use Rattle.card_types.specs.Registry as registry
-use Rattle.card_types.specs.RegistryChange.{IsFileAdded}
-use Rattle.card_types.specs.Well.{Well, pages_of}
 use Rattle.card_types.specs.declared.factory.TheConstants.{FACTORY_FILE}
 use Rattle.card_types.specs.declared.limits.TheConstants.{LOAD_PAGES}
 use Rattle.card_types.specs.declared.tables.Entry.{Entry}
@@ -30,14 +25,9 @@ use Rattle.card_types.specs.declared.tables.LoadFile.{LoadFile}
 use Rattle.card_types.specs.declared.tables.Object.{Object}
 use Rattle.card_types.specs.declared.tables.Tables.{Tables}
 use Rattle.load_session.proofs.Judged.{as_long}
-use Rattle.load_session.specs.Pages.{AreOwn, pages_in}
-use Rattle.rec_store.specs.Reopens.{IsFree}
-use Rattle.registry.specs.Adding.{AddsFile, NoneHas}
 use Rattle.card_core.proofs.Cards.{AreFiles, IsFactoryIn, cards_over, in_order}
 use Rattle.card_core.proofs.EntryCards.{KeepsNumbers}
 use Rattle.card_core.proofs.SomeAdmitted.{domain_named}
-use Rattle.card_core.specs.Domains.{is_domain_in}
-use Rattle.card_core.specs.Kept.{AreCards}
 
 -- a file joins, and entries, keys and data objects stay
 pub joining_keeps : (before after : Tables) (slot : ℕ) (file : LoadFile) → AddsFile before after slot file → KeepsNumbers before after

@@ -1,16 +1,13 @@
 -- Load pages that stay free while the registry changes.
 use Rattle.std.proofs.Common.{◌≡◌, ℕ, List, Option, None, subst, sym}
 use Rattle.std.specs.Prelude.{All, Contains, slice_set}
-use Rattle.card_check.specs.IsCard.{pages_named}
-use Rattle.card_types.specs.Represents.{used}
+use Rattle.card_core.specs.Prelude.{KeepsFree, Moves, pages_named, used}
 use Rattle.card_types.specs.declared.found.Found.{Found}
 use Rattle.card_types.specs.declared.found.Found.TheVariants as found
 use Rattle.card_types.specs.declared.tables.LoadFile.{LoadFile}
 use Rattle.card_types.specs.declared.tables.Tables.{Tables}
 use Rattle.card_core.proofs.EntryCards.{all_still}
 use Rattle.card_core.proofs.RemovedCards.{all_left}
-use Rattle.card_core.specs.Manages.{KeepsFree}
-use Rattle.registry.specs.Setting.{Moves}
 
 -- no file has the page
 abbrev IsWithout : ℕ → LoadFile → Type 0

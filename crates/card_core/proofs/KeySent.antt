@@ -1,10 +1,7 @@
 -- A key in the blocks that it was sent in.
 use Rattle.std.proofs.Common.{◌≡◌, ◌∙◌, ◌≤◌, ℕ, List, ◌++◌, ap, drop, inl, inr, length, subst, sym, take, arith}
 use Rattle.std.proofs.lemmas.List.{length-take-le, take-append-drop}
-use Rattle.card_types.specs.Well.{IsKeyLength}
-use Rattle.cmac_kdf.specs.Blocks.{IsBytes, zero_block}
-use Rattle.cmac_kdf.specs.Cbc.{cbc}
-use Rattle.policy_machine.specs.PutKey.{IsKeySent, SentKey, sealed_size}
+use Rattle.card_core.specs.Prelude.{IsBytes, IsKeyLength, IsKeySent, SentKey, cbc, sealed_size, zero_block}
 
 -- a key has no more bytes than its blocks
 within_blocks : (size : ℕ) → IsKeyLength size → size ≤ sealed_size size

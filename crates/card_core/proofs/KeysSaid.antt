@@ -2,15 +2,9 @@
 use Rattle.std.proofs.Common.{◌≡◌, ℕ, List, length, ap, ◌∙◌}
 use Rattle.std.specs.Prelude.{Option, filter, map}
 use Rattle.std.specs.List.Sorted.{IsPermutation, IsStrictlySortedBy}
-use Rattle.card_types.specs.Registry.{counter_order, key_order, Counter, Key, Registry}
-use Rattle.card_types.specs.Represents.{Represents, counter_of, keeps_counter, key_of, used}
-use Rattle.card_types.specs.Well.{Well}
+use Rattle.card_core.specs.Prelude.{AreCards, Contents, Counter, Key, Registry, Represents, SameElse, Well, counter_of, counter_order, keeps_counter, key_of, key_order, used, with_keys}
 use Rattle.card_types.specs.declared.tables.Object.{Object}
-use Rattle.policy_machine.specs.KeySets.{with_keys}
-use Rattle.rec_store.specs.Contents.{Contents}
-use Rattle.rec_store.specs.Keeper.{SameElse}
 use Rattle.card_core.proofs.Cards.{cards_after}
-use Rattle.card_core.specs.Kept.{AreCards}
 
 module _ {F : Type 0} (old new : Contents F) (same : SameElse old new) where
   -- the registry with these keys and sequence counters

@@ -4,18 +4,13 @@ use Rattle.std.specs.Prelude.{filter, map, ◌==◌}
 use Rattle.std.proofs.lemmas.Bool.Decides.{eqb_tells}
 use Rattle.std.proofs.lemmas.List.{map-append}
 use Rattle.bertlv.proofs.SpellingLemmas.{elements_more}
-use Rattle.bertlv.specs.Spelling.{AreElements, Spelling}
-use Rattle.card_types.specs.Search.{IsLeast, NoneFits}
+use Rattle.card_core.specs.Prelude.{AreElements, IsKeyInformation, IsLeast, NoneFits, Represents, Spelling, Well, domain_aid, follows, held, is_past, key_information, key_of, name_order}
 use Rattle.card_types.specs.Registry as registry
-use Rattle.card_types.specs.Represents.{Represents, domain_aid, key_of, held}
-use Rattle.card_types.specs.Well.{Well}
 use Rattle.card_types.specs.declared.limits.TheConstants.{DOMAIN_KEYS}
 use Rattle.card_types.specs.declared.tables.Entry.{Entry}
 use Rattle.card_types.specs.declared.tables.KeyRec.{KeyRec}
 use Rattle.card_types.specs.declared.tables.Tables.{Tables}
-use Rattle.policy_machine.specs.GetData.{IsKeyInformation, key_information}
 use Rattle.policy_slots.proofs.OwnKeys.{IsAfter, keys_are, keys_from_next, keys_from_none, next_named, none_named, own_past}
-use Rattle.policy_slots.specs.KeyOrder.{follows, is_past, name_order}
 use Rattle.policy_slots.specs.declared.key_order.KeyName.{KeyName}
 
 -- `count` keys of the domain are written; then comes this one, and those past it.

@@ -3,22 +3,15 @@ use Rattle.std.proofs.Common.{◌≡◌, ℕ, ◌<◌, List, [], Option, None, R
 use Rattle.std.specs.Prelude.{OnErr, slice_index_or}
 use Rattle.apdu_core.specs.declared.reply.Status.{Status}
 use Rattle.card_types.specs.declared.tables.Tables.{Tables}
-use Rattle.load_session.specs.Loaded.{loaded}
+use Rattle.card_core.specs.Prelude.{Admitted, CarriesOn, CarriesOutBut, Channel, Contents, Effect, KeptRepresents, LoadsAs, LoadsBy, RepresentsLoading, RepresentsSecureChannel, RepresentsSoundly, held_on, kept_of, loaded, secure_channel_of}
 use Rattle.load_session.specs.declared.session.LoadSession.{LoadSession}
-use Rattle.rec_store.specs.Contents.{Contents}
 use Rattle.card_core.specs.declared.loading.Loading.{Loading}
 use Rattle.policy_machine.proofs.OneOutcome.{does_one}
-use Rattle.policy_machine.specs.Admission.{Admitted}
-use Rattle.policy_machine.specs.State.{Effect, Channel, secure_channel_of}
 use Rattle.policy_machine.specs.declared.channels.TheConstants.{CHANNELS}
 use Rattle.policy_machine.specs.declared.rule.Rule.{Rule}
 use Rattle.policy_slots.specs.declared.live.Live.{Live}
 use Rattle.card_core.proofs.Carrying.{refusal_shows}
 use Rattle.card_core.proofs.ChannelChanges.{HasFour}
-use Rattle.card_core.specs.Kept.{KeptRepresents, RepresentsSoundly, kept_of, RepresentsSecureChannel, held_on}
-use Rattle.card_core.specs.Loading.{RepresentsLoading}
-use Rattle.card_core.specs.Loads.{LoadsAs}
-use Rattle.card_core.specs.Serves.{CarriesOn, CarriesOutBut, LoadsBy}
 use Rattle.card_core.specs.declared.channel_session.ChannelSession.{ChannelSession}
 
 -- a refusal has left the load pages, the tables, the channels, and what is kept of the load session

@@ -1,34 +1,20 @@
 -- What is so of the load session that a card keeps, by some state that it stands for.
 use Rattle.std.proofs.Common.{◌≡◌, ℕ, ◌+◌, ◌≤◌, List, Bool, true, Option, None, Some, sym, ap, subst, ◌∙◌, length, arith}
 use Rattle.std.specs.Prelude.{MatchOption, drop, unwrap_or}
-use Rattle.card_check.specs.IsCard.{HasPages}
+use Rattle.card_core.specs.Prelude.{AreFree, AreNewPages, Block, BringsBytes, HasPages, HoldsLoad, IsBlockTaken, IsDomainNamed, IsLoadNamed, IsWellLoad, LoadSession, NoneFree, NoneHas, RepresentsAfter, RepresentsLoad, RepresentsLoading, block_in, entry_named, file_named, is_domain_held, is_domain_in, len_of, load_aid, load_slot, loaded, pages_in, pages_of, with_block}
 use Rattle.card_types.proofs.Domains.{domain_named_is_used}
 use Rattle.card_types.proofs.FoundNames.{found_entry_named, found_file_named}
 use Rattle.card_types.proofs.Room.{no_file_room}
-use Rattle.card_types.specs.Search.{NoneFree}
-use Rattle.card_types.specs.Registry.{entry_named, file_named}
-use Rattle.card_types.specs.Well.{IsDomainNamed, pages_of}
 use Rattle.card_types.specs.declared.found.Found.TheVariants as found
 use Rattle.card_types.specs.declared.limits.TheConstants.{FILES, LOAD_PAGES}
 use Rattle.card_types.specs.declared.tables.Tables.{Tables}
-use Rattle.load_session.specs.Loaded.{AreNewPages, loaded}
-use Rattle.load_session.specs.Pages.{pages_in}
-use Rattle.load_session.specs.Session.{IsBlockTaken, RepresentsAfter, RepresentsLoad, len_of, load_aid, load_slot}
 use Rattle.load_session.specs.declared.block.Taken.{Taken}
 use Rattle.load_session.specs.declared.load_write.LoadWrite.{LoadWrite}
 use Rattle.load_session.specs.declared.session.LoadSession.{LoadSession as Kept}
 use Rattle.policy_machine.proofs.LoadBlocksBrought.{some_announced}
-use Rattle.policy_machine.specs.LoadBlocks.{Block, BringsBytes, with_block}
-use Rattle.policy_machine.specs.Sound.{IsWellLoad}
-use Rattle.policy_machine.specs.State.{LoadSession}
 use Rattle.content_rules.specs.declared.load.LoadRequest.{LoadRequest}
-use Rattle.policy_slots.specs.StateShown.{IsLoadNamed}
 use Rattle.policy_slots.specs.declared.live.Live.{Live}
 use Rattle.policy_slots.specs.declared.live.LoadName.{LoadName}
-use Rattle.registry.specs.Adding.{NoneHas}
-use Rattle.card_core.specs.Domains.{is_domain_held, is_domain_in}
-use Rattle.card_core.specs.Loading.{AreFree, RepresentsLoading}
-use Rattle.card_core.specs.Loads.{HoldsLoad, block_in}
 
 -- a load session is kept, whose file may be added
 pub record IsHeld (tables : Tables) (kept : Kept) : Type 0 where

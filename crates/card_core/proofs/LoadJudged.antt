@@ -2,31 +2,19 @@
 use Rattle.std.proofs.Common.{◌≡◌, ℕ, List, false, true, Option, None, Some, Result, Ok, Err, sym, subst, ◌∙◌, inl, inr}
 use Rattle.std.specs.Prelude.{◌↔◌}
 use Rattle.std.proofs.lemmas.Bool.{eq-eqb, eqb-true}
-use Rattle.card_check.specs.IsCard.{HasPages}
+use Rattle.card_core.specs.Prelude.{ActsIn, Admitted, Block, ForEachSaid, HasNoRoom, HasOtherCount, HasOtherHash, HasPages, IsFirst, IsForBlock, IsForLast, IsLoadNamed, IsLoadOf, IsSound, LoadFails, LoadParameters, RepresentsLoad, RepresentsLoading, RepresentsState, StopsBlock, block_in, block_of, block_rule, front_rules, last_rules, load_rules}
 use Rattle.card_types.specs.declared.tables.Tables.{Tables}
-use Rattle.load_session.specs.Judging.{ForEachSaid, StopsBlock}
-use Rattle.load_session.specs.Session.{RepresentsLoad}
 use Rattle.load_session.specs.declared.block.BlockStop.{BlockStop}
 use Rattle.load_session.specs.declared.block.BlockStop.TheVariants.{FirstBlock, NoRoom, Count, Hash}
 use Rattle.load_session.specs.declared.block.Taken.{Taken}
 use Rattle.load_session.specs.declared.session.LoadSession.{LoadSession as Kept}
-use Rattle.policy_machine.specs.Admission.{Admitted}
-use Rattle.policy_machine.specs.Refusal.{IsFirst}
-use Rattle.policy_machine.specs.Load.{LoadFails, LoadParameters, block_of, front_rules, last_rules, load_rules}
-use Rattle.policy_machine.specs.LoadBlocks.{Block, HasNoRoom, HasOtherCount, HasOtherHash}
-use Rattle.policy_machine.specs.Sound.{IsSound}
 use Rattle.policy_machine.specs.declared.rule.Rule.{Rule}
 use Rattle.policy_machine.specs.declared.rule.Rule.TheVariants.{LO}
 use Rattle.content_rules.proofs.LoadJudging.{count_refuses, hash_refuses, last_decides, length_refuses, more_passes, room_refuses}
 use Rattle.content_rules.proofs.LoadNamed.{IsNamedOn, named_on_channel}
-use Rattle.content_rules.specs.LoadFound.{IsForLast}
-use Rattle.content_rules.specs.LoadRequests.{IsLoadOf}
 use Rattle.content_rules.specs.declared.load.LoadRequest.{LoadRequest}
-use Rattle.policy_slots.specs.StateShown.{ActsIn, IsLoadNamed, RepresentsState}
 use Rattle.policy_slots.specs.declared.live.Live.{Live}
 use Rattle.policy_slots.specs.declared.live.LoadName.{LoadName}
-use Rattle.card_core.specs.Loading.{RepresentsLoading}
-use Rattle.card_core.specs.Loads.{IsForBlock, block_in, block_rule}
 
 -- a command that has passed the rules on the number of its block brings it to the load session that is kept
 pub for_block : (page : ℕ → List ℕ) (tables : Tables) (live : Live) (session : Option Kept) (kept : Kept) (name : LoadName) (domain channel : ℕ) (request : LoadRequest) (admitted : Admitted)

@@ -6,13 +6,10 @@ use Rattle.std.proofs.Math.Seq.{take-append-add, take-suc}
 use Rattle.std.proofs.lemmas.Bool.{cases_lt}
 use Rattle.std.proofs.lemmas.List.{append-nil, length-append, length-take-le, map-append, take_all}
 use Rattle.std.proofs.lemmas.List.Folds.{concat-append}
-use Rattle.card_check.specs.IsCard.{HasPages}
+use Rattle.card_core.specs.Prelude.{Contents, HasPages, IsLoadRead, Reopens}
 use Rattle.flash_core.specs.declared.flash.Flash.{Ghosts as Flash}
 use Rattle.flash_core.specs.declared.page.Page.{Page}
 use Rattle.rec_store.proofs.Leaving.{joined, unmoved}
-use Rattle.rec_store.specs.Contents.{Contents}
-use Rattle.rec_store.specs.Reopens.{Reopens}
-use Rattle.card_core.specs.LoadRead.{IsLoadRead}
 
 module _ {F : Type 0} (device : Flash F) where
   abbrev Reads : Contents F → Contents F → Type 0

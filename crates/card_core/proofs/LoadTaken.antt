@@ -4,45 +4,25 @@ use Rattle.std.specs.Prelude.{All, drop, if◌then◌else◌}
 use Rattle.std.specs.Result.{IsErrAnd}
 use Rattle.std.proofs.lemmas.Bool.{eq-eqb}
 use Rattle.apdu_core.specs.declared.reply.Status.{Status}
-use Rattle.card_types.specs.Privileges.{delegated_management}
+use Rattle.card_core.specs.Prelude.{ActsIn, AddsLoaded, Admitted, AnswersFor, Block, BringsBytes, Effect, EndsLoad, FindsConfirmer, GoesOn, HasEffect, Holds, IsAnswered, IsAnsweredBy, IsBlockTaken, IsFileAdded, IsFirst, IsForBlock, IsFree, IsLoadNamed, IsLoaded, KeepsAids, LoadFails, LoadSession, LoadsAs, Represents, RepresentsLoad, RepresentsLoading, RepresentsState, State, TakesCommand, Volatile, block_in, block_of, delegated_management, domain_aid, file_of, file_of_load, leaves, live_with_block, live_without_load, load_rules, load_without_channel, loaded, loading, numbers, unconfirmed, with_block, without_load}
 use Rattle.card_types.specs.Registry.{LoadFile as File, Registry}
-use Rattle.card_types.specs.RegistryChange.{IsFileAdded}
-use Rattle.card_types.specs.Represents.{Represents, domain_aid, file_of}
 use Rattle.card_types.specs.declared.tables.LoadFile.{LoadFile}
 use Rattle.card_types.specs.declared.tables.Tables.{Tables}
 use Rattle.load_session.proofs.Loading.{tables_say_the_same}
-use Rattle.load_session.specs.Loaded.{loaded, numbers}
-use Rattle.load_session.specs.Session.{IsBlockTaken, RepresentsLoad}
 use Rattle.load_session.specs.declared.block.Taken.{Taken}
 use Rattle.load_session.specs.declared.load_write.LoadWrite.{LoadWrite}
 use Rattle.load_session.specs.declared.session.LoadSession.{LoadSession as Kept}
 use Rattle.policy_machine.proofs.Judging.{IsListed, does_so, judged}
-use Rattle.policy_machine.specs.Admission.{Admitted}
-use Rattle.policy_machine.specs.Commands.{HasEffect, TakesCommand}
-use Rattle.policy_machine.specs.Delegation.{Holds, IsAnswered, unconfirmed}
-use Rattle.policy_machine.specs.Refusal.{IsFirst}
-use Rattle.policy_machine.specs.Load.{EndsLoad, GoesOn, LoadFails, block_of, file_of_load, load_rules, loading}
-use Rattle.policy_machine.specs.LoadBlocks.{Block, BringsBytes, with_block}
-use Rattle.policy_machine.specs.State.{Effect, State, LoadSession, Volatile, load_without_channel, without_load}
 use Rattle.policy_machine.specs.declared.rule.Rule.{Rule}
 use Rattle.content_rules.proofs.LoadNamed.{counted_named}
 use Rattle.content_rules.specs.declared.load.LoadRequest.{LoadRequest}
-use Rattle.policy_slots.specs.StateShown.{ActsIn, IsLoadNamed, RepresentsState}
-use Rattle.policy_slots.specs.HoldersFound.{FindsConfirmer}
-use Rattle.policy_slots.specs.LiveEnds.{live_with_block, live_without_load}
 use Rattle.policy_slots.specs.declared.live.Live.{Live}
 use Rattle.policy_slots.specs.declared.live.LoadName.{LoadName}
-use Rattle.rec_store.specs.Reopens.{IsFree}
 use Rattle.card_core.proofs.Answered.{aids_selected}
 use Rattle.card_core.proofs.ChannelChanges.{load_left, says_kept}
 use Rattle.card_core.proofs.Confirming.{answered_so, finds_receipter}
 use Rattle.card_core.proofs.LoadsKept.{refusal_loaded}
 use Rattle.card_core.proofs.LoadJudged.{is_last, is_more, load_on, load_stands, same_block}
-use Rattle.card_core.specs.Confirms.{AnswersFor, IsAnsweredBy, leaves}
-use Rattle.card_core.specs.Loading.{RepresentsLoading}
-use Rattle.card_core.specs.LoadedFile.{AddsLoaded}
-use Rattle.card_core.specs.Loads.{IsForBlock, IsLoaded, LoadsAs, block_in}
-use Rattle.card_core.specs.Manages.{KeepsAids}
 
 listed : IsListed loading
 listed holds here = inl here

@@ -1,43 +1,25 @@
 -- What is kept of the load session, while other commands come.
 use Rattle.std.proofs.Common.{◌≡◌, ◌≢◌, ◌⊎◌, ℕ, List, [], Bool, true, false, Option, None, Some, Result, Ok, Err, refl, sym, subst, ◌∙◌, inl, inr, arith}
 use Rattle.std.specs.Prelude.{All, IfSome, MatchOption, if◌then◌else◌, ◌==◌}
-use Rattle.apdu_core.specs.Apdu.{Apdu}
+use Rattle.card_core.specs.Prelude.{Admitted, Apdu, AreFree, AreSpare, AsksForLoad, IsDomainNamed, IsFree, IsLoadNamed, IsRequestOf, IsSound, IsSpare, IsWellLoad, Judges, KeepsAid, KeepsFree, KeepsSelected, LoadSession, LoadsAs, LoadsBy, RepresentsLoading, RepresentsState, Session, State, Volatile, admitted_as, channel_of, class_passed, domain_aid, keeps_load, load_slot, load_without_channel, message_joined, numbers, refusal_leaves, session_passed, with_offer_dropped, without_load}
 use Rattle.apdu_core.specs.declared.reply.Status.{Status}
 use Rattle.card_types.proofs.Domains.{domain_aid_is, domain_named_is_used}
 use Rattle.card_types.proofs.EntryNames.{one_entry_slot}
-use Rattle.card_types.specs.Represents.{domain_aid}
-use Rattle.card_types.specs.Well.{IsDomainNamed}
 use Rattle.card_types.specs.declared.tables.Tables.{Tables}
 use Rattle.card_check.proofs.LoadPagesNamed.{all_of_members}
 use Rattle.flash_core.specs.declared.flash.Flash.{Ghosts as Flash}
 use Rattle.load_session.proofs.Stays.{session_stays}
-use Rattle.load_session.specs.Loaded.{numbers}
 use Rattle.load_session.specs.declared.load_write.LoadWrite.{LoadWrite}
-use Rattle.rec_store.specs.Reopens.{AreSpare, IsFree, IsSpare}
 use Rattle.std.proofs.lemmas.List.Elements.{All-contains}
-use Rattle.load_session.specs.Session.{load_slot}
 use Rattle.load_session.specs.declared.session.LoadSession.{LoadSession as Kept}
 use Rattle.policy_machine.proofs.LoadsLeft.{loads_left}
-use Rattle.policy_machine.specs.Admission.{Admitted, admitted_as, class_passed, message_joined, session_passed}
-use Rattle.policy_machine.specs.Classes.{channel_of}
-use Rattle.policy_machine.specs.Sound.{IsSound, IsWellLoad}
-use Rattle.policy_machine.specs.State.{State, LoadSession, Volatile, load_without_channel, with_offer_dropped, without_load}
-use Rattle.policy_machine.specs.Step.{keeps_load, refusal_leaves}
 use Rattle.policy_machine.specs.declared.instruction.TheConstants.{INSTALL, LOAD}
 use Rattle.policy_machine.specs.declared.rule.Rule.{Rule}
-use Rattle.policy_rules.specs.Requests.{IsRequestOf}
 use Rattle.policy_rules.specs.declared.request.Request.{Request}
 use Rattle.policy_rules.specs.declared.request.Request.TheVariants.{Select, MoreChannel, LessChannel, Get, Initialize, Authenticate, PutKey, Store, DeleteKey, DeleteObject, Install, MakeSelectable, Extradite, InstallLoad, CardStatus, EntryStatus, Load, List as ListStatus}
-use Rattle.policy_slots.specs.StateShown.{IsLoadNamed, RepresentsState}
 use Rattle.policy_slots.specs.declared.live.Live.{Live}
 use Rattle.policy_slots.specs.declared.live.LoadName.{LoadName}
-use Rattle.scp03_card.specs.Session.{Session}
-use Rattle.card_core.specs.Loading.{AreFree, RepresentsLoading}
-use Rattle.card_core.specs.Loads.{LoadsAs}
-use Rattle.policy_machine.specs.Commands.{Judges}
 use Rattle.std.specs.Result.{IsErrAnd}
-use Rattle.card_core.specs.Manages.{KeepsAid, KeepsFree, KeepsSelected}
-use Rattle.card_core.specs.Serves.{AsksForLoad, LoadsBy}
 use Rattle.policy_machine.proofs.Lawful.{IsLoading, LoadStays}
 
 module _ (page : ℕ → List ℕ) (tables : Tables) (loading : Option Kept) where

@@ -2,27 +2,13 @@
 use Rattle.std.proofs.Common.{◌≡◌, ◌↔◌, ℕ, inl, inr, Bool, List, [], None, Option, Some, Result, Ok, Err, refl, sym, subst}
 use Rattle.std.specs.Result.{IsErrAnd}
 use Rattle.apdu_core.specs.declared.reply.Status.{Status}
-use Rattle.card_types.specs.Registry.{Registry}
-use Rattle.card_types.specs.Represents.{Represents}
+use Rattle.card_core.specs.Prelude.{ActsIn, Admitted, AnswersFor, AreCards, BecomesAsAsked, CommandAsks, CommandForm, Confirms, FindsConfirmer, IsAnswered, IsFirst, IsManaged, IsOfForm, JudgedFirst, JudgedForm, Judges, KeepsReceipts, ManagedForm, Manages, Registry, Represents, TakesCommand, command_form, leaves, rules_before_form}
 use Rattle.card_types.specs.declared.tables.Tables.{Tables}
 use Rattle.policy_machine.proofs.Judging.{IsListed, does_so, judged}
 use Rattle.policy_machine.proofs.ManagedLawful.{replied}
-use Rattle.policy_machine.specs.Admission.{Admitted}
-use Rattle.policy_machine.specs.CommandForm.{CommandForm}
-use Rattle.policy_machine.specs.Commands.{Judges, TakesCommand}
-use Rattle.policy_machine.specs.Delegation.{IsAnswered}
-use Rattle.policy_machine.specs.ExternalAuthenticate.{rules_before_form}
-use Rattle.policy_machine.specs.Refusal.{IsFirst}
-use Rattle.policy_machine.specs.ManagedForm.{CommandAsks, JudgedFirst, JudgedForm, ManagedForm, command_form}
 use Rattle.policy_machine.specs.declared.rule.Rule.{Rule}
-use Rattle.policy_slots.specs.StateShown.{ActsIn}
-use Rattle.policy_slots.specs.HoldersFound.{FindsConfirmer}
 use Rattle.card_core.proofs.Cards.{in_order}
 use Rattle.card_core.proofs.Confirming.{answered_so, finds_receipter}
-use Rattle.card_core.specs.ConfirmedForms.{BecomesAsAsked, IsOfForm}
-use Rattle.card_core.specs.Confirms.{AnswersFor, Confirms, KeepsReceipts, leaves}
-use Rattle.card_core.specs.Kept.{AreCards}
-use Rattle.card_core.specs.Manages.{IsManaged, Manages}
 
 -- a refusal that is handed on changes nothing
 pub refusal_managed : (admitted : Admitted) (page : ℕ → List ℕ) (tables : Tables) (body : List ℕ) (result : Result Status Rule) (found : Rule)

@@ -7,17 +7,12 @@ use Rattle.std.proofs.lemmas.Bool.{and_parts, cases_eq, eq-eqb, eqb-true, false_
 use Rattle.std.proofs.lemmas.List.{get_or-set_same, length-set}
 use Rattle.std.proofs.lemmas.List.Folds.{list_any_at}
 use Rattle.std.proofs.lemmas.List.Sorted.{length_permutation, list_any-IsPermutation}
-use Rattle.bertlv.specs.Spelling.{Element}
+use Rattle.card_core.specs.Prelude.{Element, IsSlotFor, NoneFits, has_object_in, has_tag_in, held, is_tagged_in, new_tags, object_with, used}
 use Rattle.card_types.proofs.ChangedSlot.{set_shown}
-use Rattle.card_types.specs.Search.{NoneFits}
-use Rattle.card_types.specs.Represents.{used, held}
 use Rattle.card_types.specs.declared.limits.TheConstants.{OBJECTS}
 use Rattle.card_types.specs.declared.tables.Object.{Object}
 use Rattle.key_rules.proofs.Stays.{any_used}
 use Rattle.policy_machine.proofs.NewTags.{count_if, first_new, with_tag}
-use Rattle.policy_machine.specs.DataObjects.{has_tag_in, new_tags}
-use Rattle.policy_slots.specs.ObjectsHeld.{has_object_in, is_tagged_in}
-use Rattle.card_core.specs.ObjectsPut.{IsSlotFor, object_with}
 
 -- where no slot has one, there is none
 pub none_tagged : (owner tag : ℕ) (slots : List (Option Object)) → NoneFits (λ object. is_tagged_in owner tag (Some object)) slots → has_object_in slots owner tag ≡ false

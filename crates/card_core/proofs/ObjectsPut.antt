@@ -6,17 +6,12 @@ use Rattle.std.proofs.lemmas.Bool.{and_parts, eqb-true}
 use Rattle.std.proofs.lemmas.List.{length-map, length-set}
 use Rattle.std.proofs.lemmas.List.Elements.{All-cons, All-filter, All-head, All-tail}
 use Rattle.std.proofs.lemmas.List.Sorted.{All-permutation, IsPermutation-refl, length_permutation}
-use Rattle.bertlv.specs.Spelling.{Element}
+use Rattle.card_core.specs.Prelude.{AreCards, Element, IsArranged, IsChanged, IsDomainNamed, IsObject, IsWellObject, PutsObject, Represents, SetsObject, Well, domain_aid, has_object_in, held, is_domain_held, is_domain_in, is_object_of, is_tagged_in, new_tags, object_of, object_order, object_with, used, with_data, with_object, with_objects}
 use Rattle.card_types.proofs.ChangedKeys.{object_changed}
 use Rattle.card_types.proofs.Domains.{domain_aid_is}
 use Rattle.card_types.proofs.EntryNames.{entry_in_slot}
 use Rattle.card_types.proofs.ObjectNames.{object_in_slot}
-use Rattle.card_types.specs.Registry.{object_order}
-use Rattle.card_types.specs.RegistryChange.{IsChanged}
 use Rattle.card_types.specs.Registry as registry
-use Rattle.card_types.specs.Represents.{Represents, domain_aid, object_of, used, held}
-use Rattle.card_types.specs.SlotChange.{SetsObject}
-use Rattle.card_types.specs.Well.{IsDomainNamed, IsObject, IsWellObject, Well}
 use Rattle.card_types.specs.declared.limits.TheConstants.{OBJECTS}
 use Rattle.card_types.specs.declared.tables.Entry.{Entry}
 use Rattle.card_types.specs.declared.tables.Object.{Object}
@@ -24,15 +19,9 @@ use Rattle.card_types.specs.declared.tables.Tables.{Tables}
 use Rattle.policy_machine.proofs.ObjectStored.{none_there, object_from, one_stored}
 use Rattle.policy_machine.proofs.DataWell.{data_well}
 use Rattle.policy_slots.proofs.ObjectsNamed.{has_alike}
-use Rattle.policy_machine.specs.Arranged.{IsArranged}
-use Rattle.policy_machine.specs.DataObjects.{new_tags, is_object_of, with_data, with_object, with_objects}
-use Rattle.policy_slots.specs.ObjectsHeld.{has_object_in, is_tagged_in}
 use Rattle.card_core.proofs.ObjectSlots.{room_after}
-use Rattle.card_core.specs.Domains.{is_domain_held, is_domain_in}
 use Rattle.card_types.specs.declared.tables.KeyRec.{KeyRec}
 use Rattle.card_core.proofs.Cards.{cards_after}
-use Rattle.card_core.specs.Kept.{AreCards}
-use Rattle.card_core.specs.ObjectsPut.{PutsObject, object_with}
 
 -- all but the data objects is as it was
 pub record SameButObjects (before now : Tables) : Type 0 where

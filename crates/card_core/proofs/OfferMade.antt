@@ -3,19 +3,10 @@ use Rattle.std.proofs.Common.{◌≡◌, ℕ, List, [], ◌∷◌, ◌++◌, Opt
 use Rattle.std.specs.Prelude.{IsErrAnd}
 use Rattle.std.proofs.lemmas.List.{append_assoc}
 use Rattle.apdu_core.specs.declared.reply.Status.{Status}
-use Rattle.card_core.specs.Offers.{OffersAs}
+use Rattle.card_core.specs.Prelude.{Admitted, AsksForSet, Counter, HasData, IsDataObject, Judges, KeptOffer, Object, Offer, OffersAs, Registry, RepresentsOffer, UsesSet, acting, card_cryptogram, counter_bytes, diversification_of, object_named, offer_body, offered}
 use Rattle.card_core.specs.declared.channel_session.ChannelSession.{ChannelSession}
-use Rattle.card_types.specs.Registry.{Counter, Object, Registry, object_named}
 use Rattle.card_types.specs.declared.tables.Tables.{Tables}
-use Rattle.policy_machine.specs.Admission.{Admitted}
-use Rattle.policy_machine.specs.Commands.{Judges}
-use Rattle.policy_machine.specs.GetData.{HasData, IsDataObject}
-use Rattle.policy_machine.specs.InitializeUpdate.{AsksForSet, diversification_of, offer_body}
-use Rattle.policy_machine.specs.KeySets.{UsesSet}
-use Rattle.policy_machine.specs.Management.{acting}
 use Rattle.policy_machine.specs.declared.rule.Rule.{Rule}
-use Rattle.scp03_card.specs.Kept.{KeptOffer, RepresentsOffer}
-use Rattle.scp03_card.specs.Offer.{Offer, card_cryptogram, counter_bytes, offered}
 
 -- the key diversification data where there is such a data object
 pub object_diversifies : (said : Registry) (owner value : List ℕ) → IsDataObject said owner 0xCF value

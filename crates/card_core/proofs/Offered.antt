@@ -1,11 +1,6 @@
 -- The offer that a channel holds.
 use Rattle.std.proofs.Common.{◌≡◌, None, Some, refl, subst}
-use Rattle.policy_machine.specs.Admission.{Admitted}
-use Rattle.policy_machine.specs.State.{Nothing, Offered, Secured, SecureChannel, offer_in, offer_on}
-use Rattle.scp03_card.specs.Kept.{KeptOffer, RepresentsOffer}
-use Rattle.scp03_card.specs.Offer.{Offer}
-use Rattle.card_core.specs.Kept.{RepresentsSecureChannel, IsOffered}
-use Rattle.card_core.specs.Offers.{secure_channel_for}
+use Rattle.card_core.specs.Prelude.{Admitted, IsOffered, KeptOffer, Nothing, Offer, Offered, RepresentsOffer, RepresentsSecureChannel, SecureChannel, Secured, offer_in, offer_on, secure_channel_for}
 use Rattle.card_core.specs.declared.channel_session.ChannelSession.{ChannelSession}
 use Rattle.card_core.specs.declared.channel_session.ChannelSession.TheVariants as held
 

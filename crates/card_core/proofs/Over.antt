@@ -1,26 +1,15 @@
 -- The states that a card on a device stands for.
-use Rattle.load_session.specs.Loaded.{loaded}
+use Rattle.card_core.specs.Prelude.{AreCards, AreSpare, CardOver, CardRepresents, HasPages, Keeps, LeavesOnly, Registry, Reopens, Represents, RepresentsSome, State, first_live, load_page, loaded, powered_on, store_page, stored}
 use Rattle.load_session.specs.declared.load_write.LoadWrite.{LoadWrite}
 use Rattle.load_session.specs.declared.session.LoadSession.{LoadSession}
 use Rattle.std.proofs.Common.{◌≡◌, ◌⊎◌, ℕ, List, Option, replicate, true, refl, ap, sym, subst, ◌∙◌}
-use Rattle.card_types.specs.Registry.{Registry}
-use Rattle.card_types.specs.Represents.{Represents}
 use Rattle.card_types.specs.declared.tables.Tables.{Tables}
 use Rattle.flash_core.specs.declared.flash.Flash.{Ghosts as Flash}
-use Rattle.page_journal.specs.Journal.{stored}
-use Rattle.page_journal.specs.Moments.{LeavesOnly}
-use Rattle.policy_machine.specs.State.{State, powered_on}
-use Rattle.policy_slots.specs.LiveEnds.{first_live}
 use Rattle.policy_slots.specs.declared.live.Live.{Live}
 use Rattle.rec_store.proofs.OneRegistry.{said_once}
 use Rattle.rec_store.proofs.Reopening.{has_pages, spare_same}
-use Rattle.rec_store.specs.Reopens.{AreSpare, Keeps, Reopens, load_page, store_page}
 use Rattle.card_core.proofs.Cards.{in_order}
 use Rattle.card_core.proofs.PoweredOn.{four_nothing, powered_on_stands}
-use Rattle.card_core.specs.Card.{CardOver, CardRepresents}
-use Rattle.card_core.specs.Kept.{AreCards}
-use Rattle.card_check.specs.IsCard.{HasPages}
-use Rattle.card_core.specs.Loading.{RepresentsSome}
 use Rattle.std.proofs.lemmas.List.{length-replicate}
 use Rattle.card_core.specs.declared.channel_session.ChannelSession.{ChannelSession}
 

@@ -2,25 +2,13 @@
 use Rattle.std.proofs.Common.{◌≡◌, ℕ, ◌<◌, List, Bool, true, false, Option, None, Some, Err, refl, sym, ap, subst, ◌∙◌, inl, inr, length}
 use Rattle.std.specs.Prelude.{MatchOption, if◌then◌else◌, slice_index_or, slice_set, ◌==◌}
 use Rattle.std.proofs.lemmas.List.{get_or-set_same, get_or_default, length-set, set-get_or}
-use Rattle.apdu_core.specs.Apdu.{Apdu, Short}
-use Rattle.apdu_core.specs.Reply.{status_bytes}
+use Rattle.card_core.specs.Prelude.{Apdu, GeneralFails, Gives, IsAuthentic, IsFirst, IsInSession, IsKnown, IsPlaceBefore, IsPlainManagement, IsSound, IsTaken, IsTerminatedFor, KeptRepresents, LoadSession, Nothing, Opens, OpensAs, RepresentsLoading, RepresentsSecureChannel, RepresentsSoundly, Secured, Serves, Session, Short, State, Volatile, accepting, admitted_as, channel_at, channel_of, class_of, class_passed, command_rules, field_of, held_passed, is_protected, live_passed, live_without_load, live_without_place, place_in, place_of, protects, secure_channel_of, session_for, session_in, status_bytes, status_of, with_secure_channel, without_load, without_offer_held, without_place, without_session}
 use Rattle.card_types.specs.declared.card_life.CardLife.{CardLife}
 use Rattle.card_types.specs.declared.tables.Tables.{Tables}
-use Rattle.scp03_card.specs.Opens.{Gives, IsAuthentic, Opens, accepting, field_of}
-use Rattle.scp03_card.specs.Session.{Session}
 use Rattle.policy_machine.proofs.Passing.{admitted_fits, channel_is_low, class_fits, passed_session}
 use Rattle.policy_machine.proofs.SecureChannelSet.{unloaded}
-use Rattle.policy_machine.specs.Admission.{GeneralFails, IsTaken, admitted_as, class_passed, command_rules, without_place, session_for}
-use Rattle.policy_machine.specs.Classes.{IsKnown, IsPlainManagement, channel_of, class_of, is_protected, protects}
-use Rattle.policy_machine.specs.Refusal.{IsFirst}
-use Rattle.policy_rules.specs.GetStatusRequests.{IsPlaceBefore}
-use Rattle.policy_slots.specs.StateShown.{place_of}
-use Rattle.policy_slots.specs.LiveEnds.{live_without_load, live_without_place}
 use Rattle.policy_slots.specs.declared.live.Place.{Place}
 use Rattle.std.specs.Option.{option_map}
-use Rattle.policy_machine.specs.Rules.{status_of}
-use Rattle.policy_machine.specs.Sound.{IsSound}
-use Rattle.policy_machine.specs.State.{State, LoadSession, Nothing, Secured, Volatile, channel_at, place_in, session_in, secure_channel_of, with_secure_channel, without_load, without_session}
 use Rattle.policy_machine.specs.declared.class.Class.{Class}
 use Rattle.policy_machine.specs.declared.instruction.TheConstants.{EXTERNAL_AUTHENTICATE, LOAD}
 use Rattle.policy_machine.specs.declared.channels.TheConstants.{CHANNELS}
@@ -28,14 +16,10 @@ use Rattle.policy_machine.specs.declared.rule.Rule.TheVariants.{G}
 use Rattle.policy_machine.specs.declared.rule.RuleG.{RuleG}
 use Rattle.policy_machine.specs.declared.rule.RuleG.TheVariants.{G1, G2, G3, G4, G5, G6, G7, G8}
 use Rattle.policy_slots.specs.declared.live.Live.{Live}
-use Rattle.card_core.specs.Kept.{RepresentsSecureChannel, IsInSession, held_passed, without_offer_held, KeptRepresents, RepresentsSoundly}
-use Rattle.card_core.specs.Secured.{OpensAs}
-use Rattle.card_core.specs.Serves.{IsTerminatedFor, Serves, live_passed}
 use Rattle.card_core.specs.declared.channel_session.ChannelSession.{ChannelSession}
 use Rattle.card_core.specs.declared.channel_session.ChannelSession.TheVariants as held
 use Rattle.card_core.proofs.Serving.{rejected, managed_first, no_session_first, over_first, protected_unmanaged, wrong_mac_first, wrong_padding_first}
 use Rattle.load_session.specs.declared.session.LoadSession.{LoadSession as Kept}
-use Rattle.card_core.specs.Loading.{RepresentsLoading}
 use Rattle.card_core.proofs.LoadsKept.{ended_loading}
 use Rattle.card_core.proofs.ChannelChanges.{HasFour, held_same, load_ended_shows, passed_shows, session_passed_shows, shows_same, secure_channel_shows}
 

@@ -5,13 +5,9 @@ use Rattle.std.specs.Option.{option_map}
 use Rattle.card_types.proofs.Domains.{well_entry}
 use Rattle.card_types.specs.declared.tables.Entry.{Entry}
 use Rattle.card_types.specs.declared.tables.Tables.{Tables}
-use Rattle.policy_machine.specs.Admission.{Admitted}
-use Rattle.policy_machine.specs.GetStatus.{channel_at_place, with_place}
-use Rattle.policy_machine.specs.State.{Channel, Place, channel_at, place_in, selected_of}
+use Rattle.card_core.specs.Prelude.{ActsIn, Admitted, Channel, IsSelectedIn, Place, RepresentsState, channel_at, channel_at_place, live_with_place, place_in, place_of, selected_of, with_place}
 use Rattle.policy_machine.specs.declared.channels.TheConstants.{CHANNELS}
 use Rattle.policy_slots.proofs.ActingDomain.{acting_aid}
-use Rattle.policy_slots.specs.StateShown.{ActsIn, place_of, IsSelectedIn, RepresentsState}
-use Rattle.policy_slots.specs.LiveEnds.{live_with_place}
 use Rattle.policy_slots.specs.declared.live.Live.{Live}
 use Rattle.policy_slots.specs.declared.live.Place.{Place as KeptPlace}
 use Rattle.card_core.proofs.SetAt.{same_at, set_at, set_each}

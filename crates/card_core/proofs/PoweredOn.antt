@@ -3,17 +3,12 @@ use Rattle.std.proofs.Common.{◌≡◌, ℕ, zero, suc, ◌<◌, List, [], ◌�
 use Rattle.std.specs.Prelude.{slice_index_or}
 use Rattle.std.specs.Option.{option_map}
 use Rattle.card_types.specs.Represents.{HasIssuer, HasLayout, Represents as SaysRegistry}
-use Rattle.card_types.specs.Registry.{Registry}
-use Rattle.card_types.specs.Well.{Well}
+use Rattle.card_core.specs.Prelude.{IsSelectedIn, Registry, RepresentsSecureChannel, RepresentsSoundly, RepresentsState, Well, channel_at, first_live, first_volatile, place_in, place_of, powered_on, secure_channel_of}
 use Rattle.card_types.specs.declared.tables.Entry.{Entry}
 use Rattle.card_types.specs.declared.tables.Tables.{Tables}
 use Rattle.policy_machine.proofs.KeepsSound.{starts_sound}
-use Rattle.policy_machine.specs.State.{powered_on, channel_at, first_volatile, place_in, secure_channel_of}
 use Rattle.policy_machine.specs.declared.channels.TheConstants.{CHANNELS}
-use Rattle.policy_slots.specs.StateShown.{place_of, IsSelectedIn, RepresentsState}
-use Rattle.policy_slots.specs.LiveEnds.{first_live}
 use Rattle.policy_slots.specs.declared.live.Live.{Live}
-use Rattle.card_core.specs.Kept.{RepresentsSecureChannel, RepresentsSoundly}
 use Rattle.card_core.specs.declared.channel_session.ChannelSession.{ChannelSession}
 use Rattle.card_core.specs.declared.channel_session.ChannelSession.TheVariants as held
 use Rattle.card_core.proofs.ChannelChanges.{issuer_selected}

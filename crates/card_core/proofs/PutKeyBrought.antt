@@ -3,19 +3,12 @@ use Rattle.std.proofs.Common.{◌≡◌, ◌⊎◌, inl, inr, ℕ, ◌≤◌, Bo
 use Rattle.std.specs.Prelude.{◌↔◌, IsTrue, MatchOption}
 use Rattle.std.proofs.lemmas.List.Elements.{All-cons, All-head, All-nil, All-tail}
 use Rattle.policy_machine.proofs.PutKeyKeeps.{HaveLengths}
-use Rattle.policy_machine.specs.Admission.{Admitted}
+use Rattle.card_core.specs.Prelude.{Admitted, AreKeysSent, AreOpened, ChecksFit, HasFieldLengths, IsNewVersion, IsRequestOf, IsWellFormed, KeptSession, Nothing, Offered, PutKeyParameters, RepresentsSecureChannel, RepresentsSession, SaysChecks, SecureChannel, Secured, SentKey, Session, key_count, secure_channel_for, sent_key, sent_keys, session_in, session_on}
 use Rattle.policy_machine.proofs.PutKeyOnce.{one_sent, opened_once, put_fails}
-use Rattle.policy_machine.specs.PutKey.{AreKeysSent, ChecksFit, HasFieldLengths, IsNewVersion, PutKeyParameters, SaysChecks, SentKey, key_count, AreOpened}
-use Rattle.policy_machine.specs.State.{Nothing, Offered, Secured, SecureChannel, session_in, session_on}
-use Rattle.policy_rules.specs.Requests.{IsRequestOf, IsWellFormed, sent_key, sent_keys}
 use Rattle.policy_rules.specs.declared.put_key.PutKeys.{PutKeys}
 use Rattle.policy_rules.specs.declared.put_key.PutKeys.TheVariants.{One, Three}
 use Rattle.policy_rules.specs.declared.put_key.SealedKey.{SealedKey}
 use Rattle.policy_rules.specs.declared.request.Request.TheVariants.{PutKey}
-use Rattle.scp03_card.specs.Kept.{KeptSession, RepresentsSession}
-use Rattle.scp03_card.specs.Session.{Session}
-use Rattle.card_core.specs.Kept.{RepresentsSecureChannel}
-use Rattle.card_core.specs.Offers.{secure_channel_for}
 use Rattle.card_core.specs.declared.channel_session.ChannelSession.TheVariants as held
 use Rattle.policy_machine.specs.declared.put_key.RulePK.TheVariants.{PK3}
 

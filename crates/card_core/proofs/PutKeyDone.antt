@@ -5,27 +5,15 @@ use Rattle.std.specs.List.{concat}
 use Rattle.std.proofs.lemmas.Bool.{and_from, and_parts}
 use Rattle.std.proofs.lemmas.List.{append-nil}
 use Rattle.apdu_core.specs.declared.reply.Status.{Status}
-use Rattle.card_types.specs.Registry.{counter_order, key_order, Counter, Key}
-use Rattle.card_types.specs.Represents.{domain_aid}
+use Rattle.card_core.specs.Prelude.{ActsIn, Admitted, AreKeysPut, AreOpened, ChecksFit, Counter, IsArranged, IsManaged, IsRequestOf, Judges, Key, NoneHolds, PutFails, Puts, SentKey, check_value, counter_order, counters_but, counters_from, domain_aid, is_domain_in, key_order, keys_but, keys_from, managed_put_key, sent_keys, with_keys}
 use Rattle.card_types.specs.declared.tables.Tables.{Tables}
-use Rattle.key_rules.specs.PutFails.{NoneHolds, PutFails}
-use Rattle.key_sets.specs.Puts.{Puts}
 use Rattle.key_rules.specs.declared.refusal.PutRefusal.TheVariants.{Unknown, Taken, Full}
 use Rattle.card_core.proofs.Managing.{replied_managed}
 use Rattle.policy_machine.proofs.PutKeyKeeps.{AreOfVersion, HaveLengths}
-use Rattle.policy_machine.specs.Admission.{Admitted}
-use Rattle.policy_machine.specs.Arranged.{IsArranged}
-use Rattle.policy_machine.specs.Commands.{Judges}
-use Rattle.policy_machine.specs.PutKey.{AreKeysPut, AreOpened, ChecksFit, SentKey, check_value, counters_from, keys_from, managed_put_key}
-use Rattle.policy_machine.specs.KeySets.{counters_but, keys_but, with_keys}
 use Rattle.policy_rules.proofs.PutKeyJudging.{none_holds}
-use Rattle.policy_rules.specs.Requests.{IsRequestOf, sent_keys}
 use Rattle.policy_rules.specs.declared.put_key.PutKeys.{PutKeys}
 use Rattle.policy_rules.specs.declared.request.Request.TheVariants.{PutKey}
-use Rattle.policy_slots.specs.StateShown.{ActsIn}
 use Rattle.card_core.proofs.PutKeyTables.{put_counters, put_keys, says_after, slot_keys}
-use Rattle.card_core.specs.Domains.{is_domain_in}
-use Rattle.card_core.specs.Manages.{IsManaged}
 
 -- one check value fits, or three do
 pub fits_one : (fit : Bool) (sent : SentKey) (key : List ℕ) → IsTrue fit ↔ (check_value key ≡ sent.check) → IsTrue fit ↔ ChecksFit (sent ∷ []) (key ∷ [])

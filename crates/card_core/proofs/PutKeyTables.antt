@@ -7,33 +7,21 @@ use Rattle.std.proofs.lemmas.List.{map-append}
 use Rattle.std.proofs.lemmas.List.Elements.{filter-append}
 use Rattle.std.proofs.lemmas.List.Sorted.{IsPermutation-append_right, IsPermutation-map, IsPermutation-trans}
 use Rattle.card_types.proofs.ChangedSlot.{same_all}
-use Rattle.card_types.specs.Aid.{same_aid}
-use Rattle.card_types.specs.Registry.{counter_order, key_order}
-use Rattle.card_types.specs.Privileges.{has, security_domain}
+use Rattle.card_core.specs.Prelude.{AreCards, IsArranged, IsDomainNamed, NoneHolds, PutFails, Puts, Represents, Well, counter_of, counter_order, counters_but, counters_from, domain_aid, entry_of, file_of, has, has_key_version, held, is_domain_in, keeps_counter, key_of, key_order, keys_but, keys_from, new_key, object_of, same_aid, security_domain, staying, used, with_keys}
 use Rattle.card_types.specs.Registry as registry
-use Rattle.card_types.specs.Represents.{Represents, counter_of, domain_aid, entry_of, file_of, keeps_counter, key_of, object_of, used, held}
-use Rattle.card_types.specs.Well.{IsDomainNamed, Well}
 use Rattle.card_types.specs.declared.limits.TheConstants.{DOMAIN_KEYS, KEYS}
 use Rattle.card_types.specs.declared.tables.Entry.{Entry}
 use Rattle.card_types.specs.declared.tables.KeyRec.{KeyRec}
 use Rattle.card_types.specs.declared.tables.Tables.{Tables}
-use Rattle.key_rules.specs.PutFails.{NoneHolds, PutFails}
-use Rattle.key_rules.specs.Staying.{staying}
-use Rattle.key_sets.specs.Puts.{Puts, new_key}
 use Rattle.key_rules.specs.declared.refusal.PutRefusal.TheVariants.{Taken, Full}
 use Rattle.policy_machine.proofs.Filtered.{filter_same}
 use Rattle.policy_machine.proofs.KeysArranged.{counters_arranged, keys_arranged}
 use Rattle.policy_machine.proofs.PutKeyKeeps.{AreOfVersion, HaveLengths, new_keys_ascending, new_keys_well}
-use Rattle.policy_machine.specs.Arranged.{IsArranged}
-use Rattle.policy_machine.specs.KeySets.{counters_but, has_key_version, keys_but, with_keys}
-use Rattle.policy_machine.specs.PutKey.{counters_from, keys_from}
 use Rattle.policy_slots.proofs.KeyCounts.{own_count, stay_count}
 use Rattle.policy_slots.proofs.KeysByName.{counters_staying, has_version_by_name, keys_staying}
-use Rattle.card_core.specs.Domains.{is_domain_in}
 use Rattle.card_types.specs.declared.tables.Object.{Object}
 use Rattle.card_core.proofs.Cards.{cards_after}
 use Rattle.card_core.proofs.SomeAdmitted.{domain_named, domain_there}
-use Rattle.card_core.specs.Kept.{AreCards}
 
 module _ (domain version : ℕ) where
   -- the keys that are put, with key identifiers from the one given on

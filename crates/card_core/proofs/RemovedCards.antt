@@ -8,7 +8,7 @@ use Rattle.std.proofs.lemmas.List.{get_or-set_other, length-map, length-set}
 use Rattle.std.proofs.lemmas.List.Elements.{All-cons, All-head, All-tail}
 use Rattle.std.proofs.lemmas.Map.Keys.{IsDistinct-cons, IsDistinct-head, IsDistinct-tail}
 use Rattle.card_check.proofs.CardNames.{file_aid_is}
-use Rattle.card_check.specs.IsCard.{IsInLoadPages, pages_named}
+use Rattle.card_core.specs.Prelude.{AreCards, HasIssuer, IsAlone, IsFrom, IsInLoadPages, IsNoDomain, IsOfCard, IsToGoIn, IsUnloaded, LeavesOthers, LeavesOwned, MayRemoveEntry, RemovesEntry, RemovesLoaded, Represents, SetsFile, Well, aid_of, domain_aid, entry_file, entry_of, file_aid, file_of, freed, held, key_owner, object_owner, pages_named, same_aid, used, without_applications, without_entry, without_file}
 use Rattle.card_types.proofs.ApplicationsRemoved.{applications_removed_keep}
 use Rattle.card_types.proofs.Domains.{domain_aid_is, domain_is_used, file_domain_is_used, loaded_file_is_used, same_domain}
 use Rattle.card_types.proofs.EntryNames.{one_entry_slot}
@@ -17,14 +17,7 @@ use Rattle.card_types.proofs.Members.{filtered}
 use Rattle.card_types.proofs.RemovedThing.{entry_removed_keeps, file_removed_keeps}
 use Rattle.card_types.proofs.SameAid.{same_aid_decides}
 use Rattle.card_types.proofs.Shows.{shows_used}
-use Rattle.card_types.specs.Aid.{same_aid}
-use Rattle.card_types.specs.ChangeLaws.{IsOfCard, MayRemoveEntry}
-use Rattle.card_types.specs.Found.{aid_of}
-use Rattle.card_types.specs.Represents.{HasIssuer, Represents, domain_aid, entry_of, file_aid, file_of, used, held}
 use Rattle.card_types.specs.Registry as registry
-use Rattle.card_types.specs.RegistryChange.{without_applications, without_entry, without_file}
-use Rattle.card_types.specs.SlotChange.{SetsFile}
-use Rattle.card_types.specs.Well.{Well}
 use Rattle.card_types.specs.declared.factory.TheConstants.{FACTORY_FILE, ISSUER}
 use Rattle.card_types.specs.declared.found.Found.TheVariants as Thing
 use Rattle.card_types.specs.declared.tables.Entry.{Entry}
@@ -33,13 +26,9 @@ use Rattle.card_types.specs.declared.tables.LoadFile.{LoadFile}
 use Rattle.card_types.specs.declared.tables.Object.{Object}
 use Rattle.card_types.specs.declared.tables.Tables.{Tables}
 use Rattle.card_types.specs.declared.tables.TheConstants.{ISSUER_SLOT}
-use Rattle.content_rules.specs.DeleteObjectFound.{IsAlone, IsFrom, IsToGoIn}
 use Rattle.registry.proofs.Freed.{held_freed, left_there, other_stays}
-use Rattle.registry.specs.Removing.{IsNoDomain, IsUnloaded, RemovesEntry, entry_file, freed, key_owner, object_owner}
 use Rattle.card_core.proofs.Cards.{AreFiles, cards_from, in_order}
 use Rattle.card_core.proofs.Confirming.{entry_in}
-use Rattle.card_core.specs.Deletes.{LeavesOthers, LeavesOwned, RemovesLoaded}
-use Rattle.card_core.specs.Kept.{AreCards}
 
 -- what a thing's slot holds
 thing_there : {T : Type 0} (name : T → List ℕ) (slot : Option T) → IsSome (option_map name slot) → (thing : T) × (slot ≡ Some thing)

@@ -3,25 +3,14 @@ use Rattle.std.proofs.Common.{◌≡◌, ◌⊎◌, ℕ, List, [], ◌∷◌, Bo
 use Rattle.std.specs.Prelude.{◌↔◌, All, Contains, IsTrue, MatchOption}
 use Rattle.std.proofs.lemmas.Bool.{true≢false}
 use Rattle.std.proofs.lemmas.List.Elements.{All-contains, All-from_recursion}
-use Rattle.apdu_core.specs.Apdu.{Apdu, Short}
-use Rattle.apdu_core.specs.Reply.{status_bytes}
+use Rattle.card_core.specs.Prelude.{Admits, Admitted, Apdu, CarriesOut, GeneralFails, GeneralRefusalLeaves, Gives, InSession, IsAuthentic, IsBuilt, IsFirst, IsKnown, IsPlainGetData, IsPlainManagement, IsSound, Kept, KeptRepresents, Of, Opens, RepresentsLoading, Serves, Session, Short, State, Volatile, accepting, admitted_as, class_of, command_rules, field_of, general_rules, instructions_of, is_protected, is_secure, managing, protects, refusal_leaves, rule_of, sent, session_for, status_bytes, status_of, status_word}
 use Rattle.apdu_core.specs.declared.reply.Status.{Status}
 use Rattle.card_types.proofs.Members.{contains_cases}
 use Rattle.card_types.specs.declared.card_life.CardLife.TheVariants.{Terminated}
-use Rattle.scp03_card.specs.Opens.{Gives, IsAuthentic, Opens, accepting, field_of}
-use Rattle.scp03_card.specs.Session.{Session}
 use Rattle.policy_machine.proofs.KeepsSound.{steps_keep_sound}
 use Rattle.policy_machine.proofs.OneOutcome.{of_one}
 use Rattle.policy_machine.proofs.Opened.{managed_protected}
-use Rattle.policy_machine.specs.Admission.{Admits, Admitted, GeneralFails, InSession, GeneralRefusalLeaves, Of, admitted_as, command_rules, general_rules, session_for}
-use Rattle.policy_machine.specs.Classes.{IsKnown, IsPlainGetData, IsPlainManagement, class_of, instructions_of, is_protected, is_secure, managing, protects}
-use Rattle.policy_machine.specs.Refusal.{IsFirst}
-use Rattle.policy_machine.specs.Commands.{IsBuilt}
 use Rattle.policy_machine.proofs.FirstUnique.{behind}
-use Rattle.policy_machine.specs.Rules.{status_of}
-use Rattle.policy_machine.specs.Sound.{IsSound}
-use Rattle.policy_machine.specs.State.{State, Volatile}
-use Rattle.policy_machine.specs.Step.{refusal_leaves, sent}
 use Rattle.policy_machine.specs.declared.class.Class.{Class}
 use Rattle.policy_machine.specs.declared.class.Class.TheVariants.{Interindustry, Plain, Secure}
 use Rattle.policy_machine.specs.declared.instruction.TheConstants.{GET_DATA, EXTERNAL_AUTHENTICATE}
@@ -29,10 +18,7 @@ use Rattle.policy_machine.specs.declared.rule.Rule.{Rule}
 use Rattle.policy_machine.specs.declared.rule.Rule.TheVariants.{G}
 use Rattle.policy_machine.specs.declared.rule.RuleG.{RuleG}
 use Rattle.policy_machine.specs.declared.rule.RuleG.TheVariants.{G5, G6, G7, G8}
-use Rattle.card_core.specs.Kept.{Kept, KeptRepresents}
-use Rattle.card_core.specs.Loading.{RepresentsLoading}
 use Rattle.load_session.specs.declared.session.LoadSession.{LoadSession}
-use Rattle.card_core.specs.Serves.{CarriesOut, Serves, rule_of, status_word}
 
 -- a general rule bars the bytes
 pub rejected : (page : ℕ → List ℕ) (card : Kept) (loading : Option LoadSession) (state : State) (bytes reply : List ℕ) (rule : RuleG) (left : Volatile) → IsSound state

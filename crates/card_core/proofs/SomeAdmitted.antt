@@ -1,21 +1,13 @@
 -- A command that some card has admitted: over these tables, for the security domain in a slot.
 use Rattle.std.proofs.Common.{◌≡◌, ℕ, true, List, [], ◌∷◌, Option, None, Some, refl, ap, sym, subst, ◌∙◌}
 use Rattle.std.specs.Prelude.{MatchOption}
-use Rattle.apdu_core.specs.Apdu.{Apdu}
+use Rattle.card_core.specs.Prelude.{ActsIn, Admitted, Apdu, IsDomainNamed, IsLoadNamed, IsOfCard, LoadSession, Represents, State, Well, domain_aid, fresh, has, held, is_domain_held, is_domain_in, security_domain}
 use Rattle.card_types.proofs.Domains.{domain_aid_is}
 use Rattle.card_types.proofs.EntryNames.{entry_in_slot}
-use Rattle.card_types.specs.ChangeLaws.{IsOfCard}
-use Rattle.card_types.specs.Privileges.{has, security_domain}
 use Rattle.card_types.specs.Registry as registry
-use Rattle.card_types.specs.Represents.{Represents, domain_aid, held}
-use Rattle.card_types.specs.Well.{IsDomainNamed, Well}
 use Rattle.card_types.specs.declared.tables.Entry.{Entry}
 use Rattle.card_types.specs.declared.tables.Tables.{Tables}
-use Rattle.policy_machine.specs.Admission.{Admitted}
-use Rattle.policy_machine.specs.State.{State, LoadSession, fresh}
-use Rattle.policy_slots.specs.StateShown.{ActsIn, IsLoadNamed}
 use Rattle.policy_slots.specs.declared.live.LoadName.{LoadName}
-use Rattle.card_core.specs.Domains.{is_domain_held, is_domain_in}
 
 used_domain : (entries : List (Option Entry)) (domain : ℕ) (found : Option Entry) → held entries domain ≡ found → is_domain_held found ≡ true
     → (entry : Entry) × (held entries domain ≡ Some entry) × (has security_domain entry.privileges ≡ true)

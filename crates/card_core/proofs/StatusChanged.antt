@@ -5,32 +5,18 @@ use Rattle.std.specs.Option.{option_map}
 use Rattle.std.proofs.lemmas.Bool.{cases_Bool}
 use Rattle.card_types.proofs.Domains.{domain_aid_is}
 use Rattle.card_types.proofs.EntryNames.{one_entry_slot}
-use Rattle.card_types.specs.Found.{aid_of}
+use Rattle.card_core.specs.Prelude.{Above, Admitted, AreCards, IsAboveIn, IsChangeFor, IsEntryStep, IsInTree, IsTreeOf, KeepsAids, LocksTree, MakesChange, OneIsSet, Registry, Represents, SaysChange, StagesChanged, StagesOthers, TreeIsSet, Well, aid_of, domain_aid, domain_of, entry_named, entry_page, held, slot_of, with_life, with_lock, with_locks}
 use Rattle.card_types.specs.Registry as registry
-use Rattle.card_types.specs.Registry.{Registry, domain_of, entry_named}
-use Rattle.card_types.specs.RegistryChange.{with_life, with_locks}
-use Rattle.card_types.specs.Represents.{Represents, domain_aid, held}
-use Rattle.card_types.specs.Well.{Well}
 use Rattle.card_types.specs.declared.found.Found.TheVariants as found
 use Rattle.card_types.specs.declared.life.LifeMark.{LifeMark}
 use Rattle.card_types.specs.declared.tables.Entry.{Entry}
 use Rattle.card_types.specs.declared.tables.Tables.{Tables}
 use Rattle.domain_tree.proofs.AboveNamed.{above_in_slots, above_named}
-use Rattle.domain_tree.specs.Above.{Above, IsAboveIn, IsTreeOf}
-use Rattle.policy_machine.specs.Admission.{Admitted}
-use Rattle.policy_machine.specs.EntryStatus.{IsEntryStep, OneIsSet, TreeIsSet}
-use Rattle.policy_rules.specs.SetStatusRequests.{IsChangeFor, slot_of}
 use Rattle.policy_rules.specs.declared.entry_status.StatusChange.{StatusChange}
 use Rattle.policy_rules.specs.declared.entry_status.StatusChange.TheVariants.{One, Tree}
-use Rattle.rec_store.specs.Places.{entry_page}
-use Rattle.registry.specs.Pages.{StagesChanged}
-use Rattle.registry.specs.Tree.{IsInTree, LocksTree, with_lock}
 use Rattle.card_core.proofs.Becoming.{named_there}
 use Rattle.card_core.proofs.Cards.{in_order}
 use Rattle.card_core.proofs.EntryCards.{changing_aids, entries_cards, entry_cards}
-use Rattle.card_core.specs.Kept.{AreCards}
-use Rattle.card_core.specs.Manages.{KeepsAids}
-use Rattle.card_core.specs.StatusChanges.{MakesChange, SaysChange, StagesOthers}
 
 -- the slots of a tree are those of the entries that it has by their names
 module _ (page : ℕ → List ℕ) (tables : Tables) (said : Registry) (says : Represents page tables said) (well : Well said) (domain : ℕ) (top : Entry)

@@ -3,23 +3,14 @@ use Rattle.std.proofs.Common.{◌≡◌, ℕ, ◌<◌, ◌≤◌, List, [], ◌�
 use Rattle.apdu_core.specs.declared.reply.Status.{Status}
 use Rattle.card_types.specs.declared.tables.Tables.{Tables}
 use Rattle.policy_machine.proofs.Judging.{does_so, judged}
-use Rattle.policy_machine.specs.Admission.{Admitted}
-use Rattle.policy_machine.specs.Commands.{HasEffect, Judges}
-use Rattle.policy_machine.specs.Refusal.{IsFirst}
-use Rattle.policy_machine.specs.GetStatus.{GetStatusFails, IsLeftAt, Thing, get_status, get_status_rules, last_aid, part_limit, place_behind, with_place}
-use Rattle.policy_machine.specs.State.{Effect, Volatile}
+use Rattle.card_core.specs.Prelude.{ActsIn, Admitted, Effect, EndsAt, GetStatusFails, HasEffect, IsFirst, IsLeftAt, IsPart, IsRequestOf, IsShown, Judges, RepresentsState, Thing, Volatile, get_status, get_status_rules, last_aid, live_with_place, part_limit, place_behind, place_of, with_place}
 use Rattle.policy_machine.specs.declared.channels.TheConstants.{CHANNELS}
 use Rattle.policy_machine.specs.declared.rule.Rule.{Rule}
-use Rattle.policy_rules.specs.Requests.{IsRequestOf}
 use Rattle.policy_rules.specs.declared.get_status.ListRequest.{ListRequest}
 use Rattle.policy_rules.specs.declared.request.Request.TheVariants.{List as ListStatus}
-use Rattle.policy_slots.specs.StateShown.{ActsIn, place_of, RepresentsState}
-use Rattle.policy_slots.specs.LiveEnds.{live_with_place}
 use Rattle.policy_slots.specs.declared.live.Live.{Live}
 use Rattle.policy_slots.specs.declared.live.Place.{Place}
 use Rattle.card_core.proofs.PlaceSet.{placed_shows}
-use Rattle.card_core.specs.Lists.{IsShown}
-use Rattle.card_core.specs.ShownParts.{EndsAt, IsPart}
 
 module _ (admitted : Admitted) where
   abbrev leaves : Volatile → List ℕ → ℕ → Effect

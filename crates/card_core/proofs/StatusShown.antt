@@ -1,18 +1,12 @@
 -- A listing, thing after thing.
 use Rattle.std.proofs.Common.{◌≡◌, ℕ, ◌+◌, ◌<◌, List, [], ◌∷◌, ◌++◌, Some, None, Option, length, refl, ap, sym, subst, ◌∙◌, append_assoc}
 use Rattle.std.proofs.lemmas.List.{append-nil}
-use Rattle.card_types.specs.Found.{aid_of}
-use Rattle.card_types.specs.Registry.{Registry}
+use Rattle.card_core.specs.Prelude.{ActsIn, Admitted, AreTemplates, BeginsAbove, IsFirstShown, IsListOf, IsNextListed, IsPart, IsTemplate, IsThingAt, NoneListed, Registry, Thing, aid_in, aid_of, last_aid, part_limit}
 use Rattle.card_types.specs.declared.found.Found.{Found}
 use Rattle.card_types.specs.declared.tables.Tables.{Tables}
-use Rattle.policy_machine.specs.Admission.{Admitted}
-use Rattle.policy_machine.specs.GetStatus.{AreTemplates, BeginsAbove, IsTemplate, Thing, aid_in, last_aid, part_limit}
 use Rattle.policy_rules.proofs.GetStatusListed.{aid_named}
 use Rattle.policy_rules.proofs.GetStatusWhole.{IsShownTo, all_shown, last_of, more_shown, next_left, none_shown}
-use Rattle.policy_rules.specs.GetStatusRequests.{IsFirstShown, IsListOf, IsNextListed, IsThingAt, NoneListed}
 use Rattle.policy_rules.specs.declared.get_status.ListRequest.{ListRequest}
-use Rattle.policy_slots.specs.StateShown.{ActsIn}
-use Rattle.card_core.specs.ShownParts.{IsPart}
 
 -- one more template after others
 templates_more : (registry : Registry) (p1 : ℕ) (things : List Thing) (thing : Thing) (bytes more : List ℕ) → AreTemplates registry p1 things bytes

@@ -3,14 +3,11 @@ use Rattle.std.proofs.Common.{◌≡◌, ◌⊎◌, inl, inr, ℕ, ◌≤◌, tr
 use Rattle.std.proofs.lemmas.Bool.{and_parts, eqb-true}
 use Rattle.std.proofs.lemmas.List.Elements.{All-contains}
 use Rattle.card_types.proofs.ObjectNames.{objects_shown}
-use Rattle.card_types.specs.Represents.{IsInOrder, held}
-use Rattle.card_types.specs.Well.{IsObject, IsWellObject}
+use Rattle.card_core.specs.Prelude.{IsInOrder, IsObject, IsValueIn, IsWellObject, held, is_tagged_in}
 use Rattle.card_types.specs.declared.search.InSlot.{InSlot}
 use Rattle.card_types.specs.declared.tables.Object.{Object}
 use Rattle.card_types.specs.declared.tables.Tables.{Tables}
 use Rattle.card_types.specs.declared.tables.TheConstants.{ISSUER_SLOT}
-use Rattle.policy_slots.specs.ObjectsHeld.{is_tagged_in}
-use Rattle.card_core.specs.Confirms.{IsValueIn}
 
 small : (tag size : ℕ) → (tag ≡ 0x42) ⊎ (tag ≡ 0x45) → IsObject tag size → size ≤ 10
 small tag size which (inl is) = is.2

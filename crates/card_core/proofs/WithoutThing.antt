@@ -6,12 +6,8 @@ use Rattle.card_types.proofs.LeastOfList.{found_fits, none_found}
 use Rattle.card_types.proofs.SetMembers.{key_there}
 use Rattle.card_types.proofs.NamedThings.{unfound_kept}
 use Rattle.card_types.proofs.SameAid.{same_aid_decides}
-use Rattle.card_types.specs.Aid.{same_aid}
-use Rattle.card_types.specs.Registry.{Counter, Entry, Key, LoadFile, Object, Registry, entry_named, file_named, is_domain}
-use Rattle.card_types.specs.RegistryChange.{without_applications, without_entry, without_file}
-use Rattle.card_types.specs.Well.{IsDomainNamed, IsWellCounter, IsWellEntry, IsWellFile, IsWellKey, IsWellObject, Well}
+use Rattle.card_core.specs.Prelude.{Counter, Entry, IsDomainNamed, IsWellCounter, IsWellEntry, IsWellFile, IsWellKey, IsWellObject, Key, LoadFile, Object, Registry, Well, entry_named, file_named, is_domain, same_aid, without_applications, without_entry, without_file, without_thing}
 use Rattle.policy_machine.proofs.ObjectStored.{keeps_all}
-use Rattle.policy_machine.specs.DeleteObject.{without_thing}
 
 -- a list without what none of it is
 without_none : {X : Type 0} (name : X → List ℕ) (aid : List ℕ) (xs : List X) → ((x : X) → Contains xs x → name x ≢ aid) → filter (λ x. not (same_aid (name x) aid)) xs ≡ xs

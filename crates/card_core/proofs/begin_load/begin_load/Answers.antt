@@ -1,12 +1,8 @@
 use Rattle.std.proofs.Common.{rules, ◌≡◌, ℕ, inr, inl, List, [], ◌∷◌, ◌++◌, OnOk, None, Option, Some, refl, ap, sym, subst, ◌∙◌, arith}
 use Rattle.std.specs.Prelude.{unwrap_or}
-use Rattle.card_types.specs.Represents.{domain_aid}
+use Rattle.card_core.specs.Prelude.{Effect, LoadSession, RepresentsLoad, RepresentsState, State, domain_aid, file_domain_for, install_load, load_begun, with_load}
 use Rattle.policy_machine.proofs.Judging.{IsListed, does_so, judged}
-use Rattle.policy_machine.specs.InstallLoad.{file_domain_for, install_load, load_begun}
-use Rattle.policy_machine.specs.State.{Effect, State, LoadSession, with_load}
-use Rattle.policy_slots.specs.StateShown.{RepresentsState}
 use Rattle.policy_slots.specs.declared.live.Live.{Live}
-use Rattle.load_session.specs.Session.{RepresentsLoad}
 use Rattle.card_core.proofs.LoadsKept.{refusal_loaded}
 use Rattle.card_core.proofs.begin_load.begin_load.Goals as goal
 

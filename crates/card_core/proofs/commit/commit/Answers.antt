@@ -1,10 +1,7 @@
 use Rattle.std.proofs.Common.{inl, sym, subst}
-use Rattle.card_check.specs.IsCard.{IsCard}
-use Rattle.card_types.specs.Represents.{Represents}
-use Rattle.page_journal.specs.Journal.{stored}
+use Rattle.card_core.specs.Prelude.{IsCard, Reopens, ReopensEither, Represents, load_page, stored}
 use Rattle.rec_store.proofs.Leaving.{joined, weaker}
 use Rattle.rec_store.proofs.Reopening.{has_pages}
-use Rattle.rec_store.specs.Reopens.{Reopens, ReopensEither, load_page}
 use Rattle.card_core.proofs.commit.commit.Goals as goal
 
 pub returns-in_err-write_pages-clause-moments : goal.returns-in_err-write_pages-clause-moments

@@ -3,16 +3,13 @@ use Rattle.std.specs.Option.{option_map}
 use Rattle.std.proofs.lemmas.Option.{MatchOption-at_some}
 use Rattle.card_types.proofs.Domains.{well_entry}
 use Rattle.card_types.proofs.LifeChanges.{receipts_keep}
-use Rattle.card_types.specs.Represents.{IsInOrder, domain_aid, held}
-use Rattle.card_types.specs.RegistryChange.{with_receipts}
+use Rattle.card_core.specs.Prelude.{IsInOrder, IsReceiptIn, MayReceipt, aids_in, domain_aid, held, with_receipts}
 use Rattle.card_types.specs.declared.limits.TheConstants.{RECEIPT_LIMIT}
 use Rattle.card_types.specs.declared.tables.Entry.{Entry}
 use Rattle.card_types.specs.declared.tables.Tables.{Tables}
-use Rattle.policy_slots.specs.HoldersFound.{MayReceipt}
 use Rattle.card_core.proofs.Cards.{in_order}
 use Rattle.card_core.proofs.Confirming.{confirmed}
 use Rattle.card_core.proofs.EntryCards.{changing_aids, entry_cards}
-use Rattle.card_core.specs.Confirms.{IsReceiptIn, aids_in}
 use Rattle.card_core.proofs.confirm.confirm.Goals as goal
 
 pub write_receipt-requires-clause-in_order : goal.write_receipt-requires-clause-in_order

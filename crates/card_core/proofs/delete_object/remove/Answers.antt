@@ -4,21 +4,16 @@ use Rattle.card_check.proofs.CardNames.{file_aid_is}
 use Rattle.card_types.proofs.Domains.{domain_aid_is}
 use Rattle.card_types.proofs.FoundNames.{found_entry_named, found_file_named}
 use Rattle.card_types.proofs.Next.{held_from_name}
-use Rattle.card_types.specs.Found.{aid_of}
-use Rattle.card_types.specs.RegistryChange.{without_entry, without_file}
-use Rattle.card_types.specs.Represents.{Represents, file_aid}
+use Rattle.card_core.specs.Prelude.{HasNoneFrom, IsAlone, IsRemovable, IsUnloaded, LeavesOthers, Represents, aid_of, file_aid, without_entry, without_file}
 use Rattle.card_types.specs.declared.found.Found.{Found}
 use Rattle.card_types.specs.declared.found.Found.TheVariants as Thing
 use Rattle.card_types.specs.declared.tables.Entry.{Entry}
 use Rattle.card_types.specs.declared.tables.LoadFile.{LoadFile}
-use Rattle.content_rules.specs.DeleteObjectFound.{HasNoneFrom, IsAlone, IsRemovable}
-use Rattle.registry.specs.Removing.{IsUnloaded}
 use Rattle.card_core.proofs.Answered.{owner_room_again}
 use Rattle.card_core.proofs.Cards.{in_order}
 use Rattle.card_core.proofs.Deleting.{issuer_stays}
 use Rattle.card_core.proofs.RemovedCards.{entry_gone_cards, entry_leaves, entry_there, file_gone_cards, file_leaves, file_there, loaded_gone_cards, loaded_leaves, no_domain, no_source, none_loaded, not_factory}
 use Rattle.card_core.proofs.WithoutThing.{entry_alone, file_with_applications, without_no_applications}
-use Rattle.card_core.specs.Deletes.{LeavesOthers}
 use Rattle.card_core.proofs.FreePages.{dropped_free, files_free}
 use Rattle.card_core.proofs.delete_object.remove.Goals as goal
 

@@ -2,8 +2,7 @@ use Rattle.std.proofs.Common.{◌≡◌, ℕ, List, Option, None, ap, sym, subst
 use Rattle.std.specs.Prelude.{IsSome, slice_set}
 use Rattle.card_check.proofs.CardNames.{file_aid_is}
 use Rattle.card_types.proofs.Next.{held_from_name}
-use Rattle.card_types.specs.RegistryChange.{without_applications, without_file}
-use Rattle.card_types.specs.Represents.{Represents, file_aid, held}
+use Rattle.card_core.specs.Prelude.{Represents, file_aid, held, without_applications, without_file}
 use Rattle.card_types.specs.declared.tables.LoadFile.{LoadFile}
 use Rattle.card_core.proofs.Answered.{entry_room, file_room, loaded_room_again}
 use Rattle.card_core.proofs.delete_object.remove_loaded.Goals as goal

@@ -4,13 +4,9 @@ use Rattle.std.proofs.lemmas.Grind.{common_steps}
 use Rattle.std.proofs.lemmas.List.{length-take-le}
 use Rattle.std.proofs.lemmas.List.Elements.{All-get_or}
 use Rattle.std.specs.Prelude.{slice_index}
-use Rattle.page_journal.specs.Pages.{IsLoadPage}
+use Rattle.card_core.specs.Prelude.{Holds256, IsLoadPage, load_page, pages_of, stored}
 use Rattle.card_core.proofs.LoadReads.{fed, reads_on}
-use Rattle.card_types.specs.Well.{pages_of}
-use Rattle.page_journal.specs.Journal.{stored}
 use Rattle.rec_store.proofs.Reopening.{has_pages}
-use Rattle.rec_store.specs.Reopens.{load_page}
-use Rattle.sha2.specs.Hashers.{Holds256}
 use Rattle.card_core.proofs.digest.digest_of.Goals as goal
 
 pub feed_page-requires-clause-range : goal.feed_page-requires-clause-range

@@ -1,8 +1,6 @@
 use Rattle.std.proofs.Common.{◌≡◌, map, take}
 use Rattle.std.specs.List.{concat}
-use Rattle.card_core.specs.LoadRead.{IsLoadRead}
-use Rattle.rec_store.specs.Reopens.{load_page}
-use Rattle.sha2.specs.Hashers.{Holds256}
+use Rattle.card_core.specs.Prelude.{Holds256, IsLoadRead, load_page}
 use Rattle.card_core.proofs.digest.digest_of.Given as goal
 
 abbrev pub invariant-loop-index : goal.invariant-loop-index

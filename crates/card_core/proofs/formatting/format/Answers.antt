@@ -4,19 +4,14 @@ use Rattle.std.specs.List.{IsDistinct}
 use Rattle.std.specs.Prelude.{replicate}
 use Rattle.std.proofs.lemmas.List.Elements.{All-cons, All-nil}
 use denote.RawPtr.{null_ptr}
-use Rattle.card_check.specs.IsCard.{IsCard, IsInLoadPages}
-use Rattle.page_journal.specs.Pages.{IsLoadPage}
+use Rattle.card_core.specs.Prelude.{HasFirst, IsCard, IsFactory, IsFactoryKey, IsInLoadPages, IsLoadPage, factory_entry, factory_file, factory_registry, held, load_page}
 use Rattle.card_types.proofs.FactoryRegistry.{factory_layout, factory_says}
 use Rattle.card_types.proofs.FactoryWell.{factory_well}
-use Rattle.card_types.specs.Factory.{IsFactory, IsFactoryKey, factory_entry, factory_file, factory_registry}
-use Rattle.card_types.specs.Represents.{held}
 use Rattle.card_types.specs.declared.card_life.CardLife.TheVariants.{OpReady}
 use Rattle.card_types.specs.declared.tables.Entry.{Entry}
 use Rattle.card_types.specs.declared.tables.KeyRec.{KeyRec}
 use Rattle.card_types.specs.declared.tables.LoadFile.{LoadFile}
 use Rattle.card_types.specs.declared.tables.Tables.{Tables}
-use Rattle.rec_store.specs.FirstSlots.{HasFirst}
-use Rattle.rec_store.specs.Reopens.{load_page}
 use Rattle.card_core.proofs.formatting.format.Goals as goal
 
 -- a vector of these things

@@ -1,10 +1,8 @@
 use Rattle.std.proofs.Common.{ℕ, ◌<◌, inl, refl, sym, ap, subst, ◌∙◌}
-use Rattle.bertlv.specs.Spelling.{Spelling}
+use Rattle.card_core.specs.Prelude.{Spelling, get_data, selected_on}
 use Rattle.policy_machine.specs.declared.rule.Rule.TheVariants.{GD}
 use Rattle.policy_machine.proofs.GetDataLaws.{get_passes, get_refused}
 use Rattle.policy_machine.proofs.Judging.{does_so}
-use Rattle.policy_machine.specs.State.{selected_on}
-use Rattle.policy_machine.specs.GetData.{get_data}
 use Rattle.policy_machine.specs.declared.channels.TheConstants.{CHANNELS}
 use Rattle.policy_rules.proofs.DataAsked.{asked_for, asks}
 use Rattle.policy_slots.proofs.Selected.{selected_entry}

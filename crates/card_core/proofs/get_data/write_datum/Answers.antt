@@ -1,9 +1,5 @@
 use Rattle.std.proofs.Common.{◌≡◌, ◌++◌, ℕ, List, [], None, Some, sym, ap, subst, ◌∙◌, inl}
-use Rattle.bertlv.specs.Spelling.{Appends, Spelling}
-use Rattle.card_types.specs.Search.{IsLeast}
-use Rattle.card_types.specs.Represents.{domain_aid, held}
-use Rattle.policy_machine.specs.GetData.{IsKeyInformation}
-use Rattle.policy_slots.specs.KeyOrder.{follows, name_order}
+use Rattle.card_core.specs.Prelude.{Appends, IsKeyInformation, IsLeast, Spelling, domain_aid, follows, held, name_order}
 use Rattle.card_core.proofs.get_data.write_datum.Goals as goal
 
 -- what is appended to nothing is the element

@@ -1,6 +1,5 @@
 use Rattle.std.proofs.Common.{◌≡◌, ◌≤◌, ◌+◌, ◌*◌, ℕ, List, [], length, refl, sym, subst, arith}
-use Rattle.policy_machine.specs.GetData.{IsKeyInformation}
-use Rattle.card_types.specs.Represents.{domain_aid}
+use Rattle.card_core.specs.Prelude.{IsKeyInformation, domain_aid}
 use Rattle.card_core.proofs.Listing.{IsListing, all_listed, first_listing, next_listing, too_many}
 use Rattle.card_core.proofs.get_data.write_keys.Goals as goal
 

@@ -1,11 +1,7 @@
 use Rattle.std.proofs.Common.{◌≡◌, ◌≤◌, ◌*◌, ℕ, List, None, Some, length}
-use Rattle.card_types.specs.Search.{IsLeast}
-use Rattle.card_types.specs.Registry.{Registry}
-use Rattle.card_types.specs.Represents.{Represents, held}
-use Rattle.card_types.specs.Well.{Well}
+use Rattle.card_core.specs.Prelude.{IsLeast, Registry, Represents, Well, follows, held, name_order}
 use Rattle.card_types.specs.declared.tables.Entry.{Entry}
 use Rattle.card_types.specs.declared.tables.Tables.{Tables}
-use Rattle.policy_slots.specs.KeyOrder.{follows, name_order}
 use Rattle.card_core.proofs.Listing.{IsListing}
 use Rattle.card_core.proofs.get_data.write_keys.Given as goal
 

@@ -1,7 +1,5 @@
 use Rattle.std.proofs.Common.{ℕ, ◌-◌, ◌≤◌, List, length}
-use Rattle.policy_machine.specs.Admission.{Admitted}
-use Rattle.policy_rules.specs.GetStatusRequests.{IsFirstShown, IsListOf}
-use Rattle.policy_slots.specs.StateShown.{ActsIn}
+use Rattle.card_core.specs.Prelude.{ActsIn, Admitted, IsFirstShown, IsListOf}
 use Rattle.card_core.proofs.StatusShown.{HasShown}
 use Rattle.card_core.proofs.get_status.show_part.Given as goal
 

@@ -1,15 +1,10 @@
 use Rattle.std.proofs.Common.{None, Some, refl, sym, subst, ◌∙◌}
 use Rattle.card_types.proofs.Domains.{key_owner_is_used}
-use Rattle.card_types.specs.Counters.{HasNextCounter}
-use Rattle.card_types.specs.Represents.{IsInOrder, counter_of, domain_aid, key_of}
+use Rattle.card_core.specs.Prelude.{ActsIn, HasNextCounter, IsInOrder, IsMade, acting, counter_of, domain_aid, key_of, offered}
 use Rattle.card_core.proofs.Cards.{in_order}
 use Rattle.card_core.proofs.CounterRaised.{raised_are_cards, raised_well, says_raised}
 use Rattle.card_core.proofs.OfferMade.{offer_stands, refusal_handed, set_asked}
-use Rattle.card_core.specs.Offers.{IsMade}
 use Rattle.card_core.specs.declared.channel_session.ChannelSession.TheVariants.{Offered}
-use Rattle.policy_machine.specs.Management.{acting}
-use Rattle.policy_slots.specs.StateShown.{ActsIn}
-use Rattle.scp03_card.specs.Offer.{offered}
 use Rattle.policy_machine.proofs.InitializeUpdateLaws.{offer_judged}
 use Rattle.card_core.proofs.initialize_update.initialize_update.Goals as goal
 

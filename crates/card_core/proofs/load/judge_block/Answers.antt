@@ -1,7 +1,6 @@
 use Rattle.std.proofs.Common.{None, Some, sym, subst}
 use Rattle.policy_machine.proofs.FirstLike.{handed_on}
-use Rattle.policy_machine.specs.Refusal.{IsFirst}
-use Rattle.policy_machine.specs.Load.{LoadFails, load_rules}
+use Rattle.card_core.specs.Prelude.{IsFirst, LoadFails, load_rules}
 use Rattle.policy_machine.specs.declared.load.RuleLO.{RuleLO}
 use Rattle.policy_machine.specs.declared.rule.Rule.TheVariants.{LO}
 use Rattle.card_core.proofs.LoadJudged.{decided, for_last, passed_more, refused_for}

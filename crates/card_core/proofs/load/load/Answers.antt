@@ -1,23 +1,14 @@
 use Rattle.std.proofs.Common.{rules, ◌≡◌, ◌≤◌, ◌+◌, ℕ, List, [], ◌∷◌, ◌++◌, Bool, true, Option, None, Some, sym, ap, subst, ◌∙◌}
 use Rattle.std.specs.Prelude.{drop}
-use Rattle.card_types.specs.Represents.{IsInOrder}
-use Rattle.card_types.specs.Well.{pages_of}
+use Rattle.card_core.specs.Prelude.{IsAfterBlock, IsBlockTaken, IsInOrder, IsLoaded, IsWholeFile, NoneHas, RepresentsAfter, RepresentsLoad, RepresentsWhole, block_in, is_domain_in, len_of, live_without_load, load_aid, load_slot, loaded, pages_in, pages_of, with_block}
 use Rattle.card_types.specs.declared.limits.TheConstants.{LOAD_PAGES}
-use Rattle.load_session.specs.Loaded.{loaded}
-use Rattle.load_session.specs.Pages.{pages_in}
-use Rattle.load_session.specs.Session.{IsAfterBlock, IsBlockTaken, IsWholeFile, RepresentsAfter, RepresentsLoad, RepresentsWhole, len_of, load_aid, load_slot}
 use Rattle.load_session.specs.declared.session.LoadSession.{LoadSession}
-use Rattle.policy_machine.specs.LoadBlocks.{with_block}
 use Rattle.content_rules.proofs.LoadJudging.{front_refuses}
-use Rattle.policy_slots.specs.LiveEnds.{live_without_load}
 use Rattle.policy_slots.specs.declared.live.Live.{Live}
 use Rattle.card_core.proofs.Cards.{in_order}
 use Rattle.card_core.proofs.LoadHeld.{few_last, held_load, new_free, some_last}
 use Rattle.card_core.proofs.LoadJudged.{for_block, load_on, load_stands}
 use Rattle.card_core.proofs.LoadTaken.{last_loaded, more_loaded, load_refused}
-use Rattle.registry.specs.Adding.{NoneHas}
-use Rattle.card_core.specs.Domains.{is_domain_in}
-use Rattle.card_core.specs.Loads.{IsLoaded, block_in}
 use Rattle.card_core.proofs.load.load.Goals as goal
 
 pub judge_block-requires-clause-in_order : goal.judge_block-requires-clause-in_order

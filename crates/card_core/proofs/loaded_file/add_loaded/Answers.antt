@@ -1,13 +1,11 @@
 use Rattle.std.proofs.Common.{rules, ◌≡◌, ◌≤◌, ℕ, List, [], ◌∷◌, Option, Some, length, sym, ap, subst, ◌∙◌}
-use Rattle.card_check.specs.LoadPages.{HasPageNumbers}
+use Rattle.card_core.specs.Prelude.{AnswersFor, HasPageNumbers, held}
 use Rattle.card_types.proofs.Domains.{domain_aid_is}
-use Rattle.card_types.specs.Represents.{held}
 use Rattle.card_types.specs.declared.tables.Entry.{Entry}
 use Rattle.card_types.specs.declared.tables.Tables.{Tables}
 use Rattle.card_core.proofs.Cards.{in_order}
 use Rattle.card_core.proofs.EntryCards.{receipts_kept}
 use Rattle.card_core.proofs.FileCards.{joined_cards, joining_keeps}
-use Rattle.card_core.specs.Confirms.{AnswersFor}
 use Rattle.card_core.proofs.loaded_file.add_loaded.Goals as goal
 
 pub confirm-requires-clause-cards : goal.confirm-requires-clause-cards

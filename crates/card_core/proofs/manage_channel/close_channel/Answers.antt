@@ -2,8 +2,7 @@ use Rattle.std.proofs.Common.{rules, ◌≡◌, ℕ, ◌<◌, [], true, false, N
 use Rattle.std.specs.Prelude.{is_none, slice_index_or}
 use Rattle.policy_machine.proofs.Judging.{does_so}
 use Rattle.policy_machine.proofs.ManageChannelLaws.{close_passes}
-use Rattle.policy_machine.specs.ManageChannel.{manage_channel}
-use Rattle.policy_machine.specs.State.{without_channel}
+use Rattle.card_core.specs.Prelude.{manage_channel, without_channel}
 use Rattle.policy_machine.specs.declared.channels.TheConstants.{CHANNELS}
 use Rattle.card_core.proofs.ChannelChanges.{begun_shows, none_selected, some_selected}
 use Rattle.card_core.proofs.manage_channel.close_channel.Goals as goal

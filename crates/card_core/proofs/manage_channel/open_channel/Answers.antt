@@ -3,8 +3,7 @@ use Rattle.policy_machine.specs.declared.rule.Rule.TheVariants.{MC}
 use Rattle.policy_machine.proofs.Judging.{does_so}
 use Rattle.policy_machine.proofs.ManageChannelLaws.{open_passes, open_refused}
 use Rattle.card_types.specs.declared.factory.TheConstants.{ISSUER}
-use Rattle.policy_machine.specs.ManageChannel.{manage_channel}
-use Rattle.policy_machine.specs.State.{fresh, with_channel}
+use Rattle.card_core.specs.Prelude.{fresh, manage_channel, with_channel}
 use Rattle.policy_machine.specs.declared.channels.TheConstants.{CHANNELS}
 use Rattle.card_core.proofs.Carrying.{refusal_shows}
 use Rattle.card_core.proofs.ChannelChanges.{opened_shows}

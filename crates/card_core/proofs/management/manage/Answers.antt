@@ -4,16 +4,12 @@ use Rattle.std.proofs.lemmas.List.Elements.{Contains-append_left}
 use Rattle.std.proofs.lemmas.Map.Views.{Contains-from_any}
 use Rattle.std.specs.List.{list_any}
 use Rattle.std.specs.Prelude.{Contains, ◌==◌}
-use Rattle.policy_machine.specs.Classes.{changing}
+use Rattle.card_core.specs.Prelude.{IsChanging, IsInSession, RepresentsSecureChannel, changing, form_in, secure_channel_for}
 use Rattle.policy_machine.specs.declared.channels.TheConstants.{CHANNELS}
-use Rattle.policy_rules.specs.Requests.{form_in}
 use Rattle.policy_rules.specs.declared.request.Request.{Request}
 use Rattle.card_core.proofs.Acting.{acts_for, held_there, low, managed_done}
 use Rattle.card_core.proofs.LoadsKept.{kept_loading, loads_same, not_loading}
 use Rattle.card_core.proofs.Passed.{read_at}
-use Rattle.card_core.specs.Manages.{IsChanging}
-use Rattle.card_core.specs.Offers.{secure_channel_for}
-use Rattle.card_core.specs.Kept.{IsInSession, RepresentsSecureChannel}
 use Rattle.card_core.specs.declared.channel_session.ChannelSession.{ChannelSession}
 use Rattle.card_core.proofs.management.manage.Goals as goal
 

@@ -1,20 +1,15 @@
 use Rattle.std.proofs.Common.{◌≡◌, arith, Option, ℕ, ◌<◌, List, refl, sym, ap, subst}
 use Rattle.std.specs.Prelude.{Contains, slice_set}
-use Rattle.card_types.specs.Represents.{IsInOrder, domain_aid}
-use Rattle.policy_machine.specs.Classes.{changing}
+use Rattle.card_core.specs.Prelude.{IsInOrder, IsRequestOf, IsWellFormed, changing, domain_aid, form_in, kept_of, load_slot, loaded}
 use Rattle.policy_machine.specs.declared.channels.TheConstants.{CHANNELS}
-use Rattle.policy_rules.specs.Requests.{IsRequestOf, IsWellFormed, form_in}
 use Rattle.policy_rules.specs.declared.request.Request.{Request}
 use Rattle.card_core.proofs.Acting.{answer_done, carries_other, listing_done, loading_done, offer_done}
 use Rattle.card_core.proofs.Cards.{in_order}
 use Rattle.card_core.proofs.Passed.{read_at}
-use Rattle.card_core.specs.Kept.{kept_of}
 use Rattle.card_core.proofs.FreePages.{files_free}
 use Rattle.card_core.proofs.LoadCarried.{begin_left, load_left}
 use Rattle.card_core.proofs.LoadsKept.{over_loading}
 use Rattle.card_types.specs.declared.tables.Entry.{Entry}
-use Rattle.load_session.specs.Loaded.{loaded}
-use Rattle.load_session.specs.Session.{load_slot}
 use Rattle.card_core.proofs.perform.perform.Goals as goal
 
 pub select-requires-clause-in_order : goal.select-requires-clause-in_order

@@ -1,19 +1,15 @@
 use Rattle.std.proofs.Common.{rules, ◌≡◌, Some, Result, Ok, Err, sym, ap, subst, ◌∙◌}
 use Rattle.std.specs.Prelude.{IfErr, IfOk}
-use Rattle.apdu_core.specs.Apdu.{Apdu, apdu_of}
+use Rattle.card_core.specs.Prelude.{Apdu, Decodes, IsMalformed, IsOffered, IsRequestOf, Judges, Takes, apdu_of, form_in}
 use Rattle.policy_machine.proofs.ExternalAuthenticateLaws.{begin_passes, unoffered_judged}
 use Rattle.policy_machine.proofs.FirstLike.{handed_on}
 use Rattle.policy_machine.proofs.Judging.{malformed_judged}
-use Rattle.policy_machine.specs.Commands.{Judges, Takes}
-use Rattle.policy_machine.specs.Malformed.{IsMalformed}
 use Rattle.policy_machine.specs.declared.external_authenticate.RuleEA.TheVariants.{EA1}
 use Rattle.policy_machine.specs.declared.instruction.TheConstants.{EXTERNAL_AUTHENTICATE}
 use Rattle.policy_machine.specs.declared.rule.Rule.{Rule}
 use Rattle.policy_machine.specs.declared.rule.Rule.TheVariants.{EA}
-use Rattle.policy_rules.specs.Requests.{Decodes, IsRequestOf, form_in}
 use Rattle.policy_rules.specs.declared.request.Request.{Request}
 use Rattle.card_core.proofs.Offered.{is_offer, no_offer}
-use Rattle.card_core.specs.Kept.{IsOffered}
 use Rattle.card_core.proofs.read_request.read_request.Goals as goal
 
 pub returns-in_err-judge_offer-clause-refused : goal.returns-in_err-judge_offer-clause-refused

@@ -4,8 +4,7 @@ use Rattle.std.proofs.lemmas.List.{length-set}
 use Rattle.policy_machine.specs.declared.rule.Rule.TheVariants.{SE}
 use Rattle.policy_machine.proofs.Judging.{does_so}
 use Rattle.policy_machine.proofs.SelectLaws.{select_passes, select_refused}
-use Rattle.policy_machine.specs.Select.{IsControlInformation, select, selected_status}
-use Rattle.policy_machine.specs.State.{fresh, with_selected}
+use Rattle.card_core.specs.Prelude.{IsControlInformation, fresh, select, selected_status, with_selected}
 use Rattle.policy_machine.specs.declared.channels.TheConstants.{CHANNELS}
 use Rattle.card_core.proofs.Carrying.{refusal_shows}
 use Rattle.card_core.proofs.ChannelChanges.{begun_shows, held_same}

@@ -1,21 +1,13 @@
 use Rattle.std.proofs.Common.{◌≡◌, ◌⊎◌, ◌<◌, ℕ, List, Option, Err, length, refl, rules, sym, ap, subst, ◌∙◌}
 use Rattle.std.specs.Prelude.{Contains, slice_index_or}
-use Rattle.apdu_core.specs.Apdu.{Apdu, apdu_of}
+use Rattle.card_core.specs.Prelude.{Admitted, Apdu, IsAsked, IsInSession, IsPassed, IsReady, IsRequestOf, RepresentsSecureChannel, apdu_of, loaded, managing, secure_channel_for, without_offer_held}
 use Rattle.card_core.proofs.Acting.{held_there, low}
 use Rattle.card_core.proofs.Carrying.{done_carried, refusal_carried, refused_carried}
-use Rattle.load_session.specs.Loaded.{loaded}
 use Rattle.card_core.proofs.Passed.{read_at, session_kept}
-use Rattle.policy_machine.specs.Classes.{managing}
 use Rattle.policy_machine.specs.declared.instruction.TheConstants.{GET_DATA}
-use Rattle.policy_machine.specs.Admission.{Admitted}
-use Rattle.policy_rules.specs.Requests.{IsRequestOf}
 use Rattle.policy_rules.specs.declared.request.Request.{Request}
 use Rattle.policy_slots.specs.declared.live.Place.{Place}
-use Rattle.card_core.specs.Serves.{IsAsked, IsPassed}
 use Rattle.policy_machine.specs.declared.channels.TheConstants.{CHANNELS}
-use Rattle.card_core.specs.Offers.{secure_channel_for}
-use Rattle.card_core.specs.Ready.{IsReady}
-use Rattle.card_core.specs.Kept.{IsInSession, RepresentsSecureChannel, without_offer_held}
 use Rattle.card_core.specs.declared.channel_session.ChannelSession.{ChannelSession}
 use Rattle.card_core.specs.declared.channel_session.ChannelSession.TheVariants as held
 use Rattle.card_core.proofs.serve.act.Goals as goal

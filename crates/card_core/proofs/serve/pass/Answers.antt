@@ -1,11 +1,10 @@
 use Rattle.std.proofs.Common.{◌∙◌, ap, false, subst, sym, true}
-use Rattle.apdu_core.specs.Apdu.{apdu_of}
+use Rattle.card_core.specs.Prelude.{IsTerminatedFor, apdu_of}
 use Rattle.card_types.specs.declared.card_life.CardLife.{CardLife}
 use Rattle.policy_slots.specs.declared.live.Live.{Live}
 use Rattle.card_core.proofs.Coming.{handed_on, managed_barred, opened_passed, over_barred, plain_passed, unopened_barred}
 use Rattle.card_core.proofs.Passed.{protects_so, selected_same}
 use Rattle.card_core.proofs.Serving.{is_managed, not_managed, unprotected_unmanaged}
-use Rattle.card_core.specs.Serves.{IsTerminatedFor}
 use Rattle.card_core.proofs.serve.pass.Goals as goal
 
 -- the card is terminated

@@ -2,14 +2,11 @@ use Rattle.std.proofs.Common.{◌∙◌, ◌<◌, ℕ, List, ap, inl, inr, refl,
 use Rattle.std.specs.Prelude.{slice_index_or, slice_set}
 use Rattle.std.proofs.lemmas.List.{set-get_or}
 use Rattle.apdu_core.proofs.Octets.{length-body}
-use Rattle.apdu_core.specs.Apdu.{Apdu, apdu_of}
+use Rattle.card_core.specs.Prelude.{Apdu, IsInSession, RepresentsState, ServesLoading, apdu_of, kept_of}
 use Rattle.policy_machine.proofs.Passing.{channel_is_low}
 use Rattle.policy_machine.specs.declared.channels.TheConstants.{CHANNELS}
-use Rattle.policy_slots.specs.StateShown.{RepresentsState}
 use Rattle.card_core.proofs.Coming.{closed_over, has_come, opened_still, passed_over, still_opened, still_secured, written_on}
 use Rattle.card_core.proofs.Serving.{rejected}
-use Rattle.card_core.specs.Kept.{kept_of, IsInSession}
-use Rattle.card_core.specs.Serves.{ServesLoading}
 use Rattle.card_core.specs.declared.channel_session.ChannelSession.{ChannelSession}
 use Rattle.card_core.proofs.serve.serve.Goals as goal
 

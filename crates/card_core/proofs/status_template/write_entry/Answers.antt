@@ -1,10 +1,6 @@
 use Rattle.std.proofs.Common.{ℕ, [], ◌∷◌, ap, ◌∙◌}
 use Rattle.std.specs.Prelude.{if◌then◌else◌}
-use Rattle.card_types.specs.Aid.{same_aid}
-use Rattle.card_types.specs.CardLife.{card_life_code}
-use Rattle.card_types.specs.LifeMark.{life_mark_code}
-use Rattle.card_types.specs.Privileges.{privilege_bytes}
-use Rattle.card_types.specs.Represents.{domain_aid, file_aid}
+use Rattle.card_core.specs.Prelude.{card_life_code, domain_aid, file_aid, life_mark_code, privilege_bytes, same_aid}
 use Rattle.card_types.specs.declared.card_life.CardLife.{CardLife}
 use Rattle.card_types.specs.declared.factory.TheConstants.{ISSUER}
 use Rattle.card_core.proofs.StatusTemplates.{appended, part}

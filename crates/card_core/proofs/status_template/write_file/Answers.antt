@@ -1,6 +1,5 @@
 use Rattle.std.proofs.Common.{[], ◌∷◌, ◌++◌, refl}
-use Rattle.card_types.specs.Represents.{domain_aid}
-use Rattle.policy_machine.specs.GetStatus.{module_parts}
+use Rattle.card_core.specs.Prelude.{domain_aid, module_parts}
 use Rattle.card_core.proofs.StatusTemplates.{appended, part}
 use Rattle.card_core.proofs.status_template.write_file.Goals as goal
 

@@ -1,8 +1,6 @@
 use Rattle.std.proofs.Common.{◌≡◌, List, [], ◌∷◌, ◌++◌, true, refl, sym, subst, ◌∙◌}
-use Rattle.bertlv.specs.Spelling.{AreElements, Element}
-use Rattle.card_types.specs.Aid.{same_aid}
+use Rattle.card_core.specs.Prelude.{AreElements, Element, module_parts, same_aid}
 use Rattle.card_types.specs.declared.factory.TheConstants.{FACTORY_FILE, FACTORY_MODULE}
-use Rattle.policy_machine.specs.GetStatus.{module_parts}
 use Rattle.card_core.proofs.StatusTemplates.{appended, part}
 use Rattle.card_core.proofs.status_template.write_modules.Goals as goal
 

@@ -1,11 +1,8 @@
 use Rattle.std.proofs.Common.{◌≡◌, Some, sym, subst, ◌∙◌}
-use Rattle.bertlv.specs.Spelling.{AreElements}
-use Rattle.card_types.specs.Represents.{entry_of, file_of, held}
+use Rattle.card_core.specs.Prelude.{AFile, AnEntry, AreElements, IsThingAt, Thing, entry_of, file_of, held, status_parts}
 use Rattle.card_types.specs.declared.found.Found.{Found}
 use Rattle.card_types.specs.declared.tables.Entry.{Entry}
 use Rattle.card_types.specs.declared.tables.LoadFile.{LoadFile}
-use Rattle.policy_machine.specs.GetStatus.{AFile, AnEntry, Thing, status_parts}
-use Rattle.policy_rules.specs.GetStatusRequests.{IsThingAt}
 use Rattle.card_core.proofs.status_template.write_value.Goals as goal
 
 pub returns-in-Entry-clause-parts : goal.returns-in-Entry-clause-parts

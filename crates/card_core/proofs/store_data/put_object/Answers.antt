@@ -1,9 +1,7 @@
 use Rattle.std.proofs.Common.{sym, subst}
 use Rattle.rec_store.proofs.Rooms.{room_stays}
-use Rattle.rec_store.specs.Places.{object_page}
-use Rattle.rec_store.specs.Room.{HasRoomFor}
+use Rattle.card_core.specs.Prelude.{HasRoomFor, object_page, object_pages}
 use Rattle.registry.proofs.Frames.{among_object_pages}
-use Rattle.registry.specs.Pages.{object_pages}
 use Rattle.card_core.proofs.store_data.put_object.Goals as goal
 
 pub set_object-requires-clause-frame : goal.set_object-requires-clause-frame

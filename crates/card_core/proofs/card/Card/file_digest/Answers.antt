@@ -1,14 +1,9 @@
 use Rattle.std.proofs.Common.{◌≡◌, Some, sym, ap, subst, ◌∙◌}
 use Rattle.std.specs.Prelude.{IfSome}
-use Rattle.card_check.specs.IsCard.{IsInLoadPages}
-use Rattle.card_types.specs.Represents.{held}
-use Rattle.page_journal.specs.Journal.{stored}
+use Rattle.card_core.specs.Prelude.{AreCards, IsInLoadPages, RepresentsSome, held, load_page, stored}
 use Rattle.rec_store.proofs.Reopening.{has_pages}
 use Rattle.rec_store.proofs.Roomy.{of_slot}
-use Rattle.rec_store.specs.Reopens.{load_page}
 use Rattle.card_core.proofs.Over.{reading, spare_over}
-use Rattle.card_core.specs.Kept.{AreCards}
-use Rattle.card_core.specs.Loading.{RepresentsSome}
 use Rattle.card_core.proofs.card.Card.file_digest.Goals as goal
 
 pub digest_of-requires-clause-file : goal.digest_of-requires-clause-file

@@ -2,14 +2,10 @@ use Rattle.std.proofs.Common.{refl, sym, ap, subst, ◌∙◌}
 use Rattle.policy_machine.proofs.NumbersRisen.{numbers_rise}
 use Rattle.policy_machine.proofs.Opened.{changes_are_opened}
 use Rattle.policy_machine.proofs.TreesStayed.{trees_stay}
-use Rattle.policy_machine.specs.Changes.{Changes}
+use Rattle.card_core.specs.Prelude.{AreCards, Changes, RepresentsAll, kept, loaded}
 use Rattle.load_session.proofs.Loading.{pages_stay_whole}
-use Rattle.load_session.specs.Loaded.{loaded}
 use Rattle.card_core.proofs.LoadsKept.{free_spare}
 use Rattle.card_core.proofs.Over.{committed, registry_told, served_keeps, served_load, served_says}
-use Rattle.card_core.specs.Card.{kept}
-use Rattle.card_core.specs.Kept.{AreCards}
-use Rattle.card_core.specs.Loading.{RepresentsAll}
 use Rattle.card_core.proofs.card.Card.process.Goals as goal
 
 pub serve-rule-requires-clause-some : goal.serve-rule-requires-clause-some

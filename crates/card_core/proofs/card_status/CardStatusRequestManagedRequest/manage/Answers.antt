@@ -3,14 +3,10 @@ use Rattle.card_core.proofs.Answered.{entries_selected}
 use Rattle.card_core.proofs.CardLifeSet.{card_life_cards, card_life_says}
 use Rattle.card_core.proofs.FreePages.{files_free}
 use Rattle.card_core.proofs.Managing.{refused_as, replied_managed}
-use Rattle.card_types.specs.RegistryChange.{with_card_life}
+use Rattle.card_core.specs.Prelude.{ActsIn, IsCardStatusOf, command_form, managed_card_status, with_card_life}
 use Rattle.card_types.specs.declared.tables.Tables.{Tables}
 use Rattle.policy_machine.proofs.Judging.{judged}
-use Rattle.policy_machine.specs.CardStatus.{managed_card_status}
-use Rattle.policy_rules.specs.SetStatusRequests.{IsCardStatusOf}
-use Rattle.policy_slots.specs.StateShown.{ActsIn}
 use Rattle.card_core.proofs.card_status.CardStatusRequestManagedRequest.manage.Goals as goal
-use Rattle.policy_machine.specs.ManagedForm.{command_form}
 
 pub returns-in_err-life-clause-done : goal.returns-in_err-life-clause-done
 returns-in_err-life-clause-done g c page admitted acts says channels request holds =

@@ -4,12 +4,9 @@ use Rattle.card_core.proofs.Cards.{in_order}
 use Rattle.card_core.proofs.FreePages.{files_free}
 use Rattle.card_core.proofs.DeleteKeyDone.{deleted_cards, deleted_says}
 use Rattle.card_core.proofs.Managing.{refusal_managed, replied_managed}
-use Rattle.card_types.specs.Represents.{IsInOrder, Represents}
+use Rattle.card_core.specs.Prelude.{ActsIn, IsInOrder, Represents, acting, managed_delete_key}
 use Rattle.card_types.specs.declared.tables.Tables.{Tables}
 use Rattle.policy_machine.proofs.DeleteKeyKeeps.{without_version}
-use Rattle.policy_machine.specs.DeleteKey.{managed_delete_key}
-use Rattle.policy_machine.specs.Management.{acting}
-use Rattle.policy_slots.specs.StateShown.{ActsIn}
 use Rattle.card_core.proofs.delete_key.DeleteKeyRequestManagedRequest.manage.Goals as goal
 
 pub judge_delete_key-requires : goal.judge_delete_key-requires

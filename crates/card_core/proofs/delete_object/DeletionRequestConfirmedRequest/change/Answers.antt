@@ -3,8 +3,7 @@ use Rattle.std.specs.Prelude.{IsSome}
 use Rattle.card_core.proofs.Becoming.{deleted}
 use Rattle.card_core.proofs.Cards.{in_order}
 use Rattle.card_core.proofs.Deleting.{confirmer_stays, deletion_able, deletion_keeps, deletion_selected, issuer_stays}
-use Rattle.card_core.specs.ConfirmedForms.{BecomesAsAsked}
-use Rattle.policy_machine.specs.DeleteObject.{managed_delete_object}
+use Rattle.card_core.specs.Prelude.{BecomesAsAsked, managed_delete_object}
 use Rattle.card_core.proofs.delete_object.DeletionRequestConfirmedRequest.change.Goals as goal
 
 pub remove-requires : goal.remove-requires

@@ -5,21 +5,15 @@ use Rattle.card_core.proofs.FreePages.{files_free}
 use Rattle.card_core.proofs.Managing.{refused_as, replied_managed}
 use Rattle.card_core.proofs.SomeAdmitted.{of_card, some_acts, some_admitted}
 use Rattle.card_core.proofs.StatusChanged.{change_says, changed_aids, changed_cards, used_by_name}
-use Rattle.card_types.specs.Found.{aid_of}
-use Rattle.card_types.specs.Represents.{IsInOrder}
+use Rattle.card_core.specs.Prelude.{ActsIn, IsInOrder, IsOther, MakesChange, aid_of, command_form, managed_entry_status, slot_of}
 use Rattle.card_types.specs.declared.found.Found.TheVariants as found
 use Rattle.card_types.specs.declared.tables.Tables.{Tables}
 use Rattle.domain_tree.proofs.AboveNamed.{free_of_loops}
 use Rattle.policy_machine.proofs.Judging.{judged}
 use Rattle.policy_machine.proofs.EntryStatusLaws.{set_of_card}
-use Rattle.policy_machine.specs.EntryStatus.{managed_entry_status}
-use Rattle.policy_rules.specs.SetStatusRequests.{IsOther, slot_of}
 use Rattle.policy_rules.specs.declared.entry_status.StatusChange.{StatusChange}
 use Rattle.policy_rules.specs.declared.entry_status.StatusChange.TheVariants.{One, Tree}
-use Rattle.policy_slots.specs.StateShown.{ActsIn}
-use Rattle.card_core.specs.StatusChanges.{MakesChange}
 use Rattle.card_core.proofs.entry_status.EntryStatusRequestManagedRequest.manage.Goals as goal
-use Rattle.policy_machine.specs.ManagedForm.{command_form}
 
 pub judge_entry_status-requires : goal.judge_entry_status-requires
 judge_entry_status-requires g c = record { in_order = subst IsInOrder (sym c.tables.ensures.tables) (in_order c.args.records.now.tables c.requires.cards) }

@@ -6,11 +6,8 @@ use Rattle.card_core.proofs.EntryCards.{aids_kept, moved_cards, moving_keeps}
 use Rattle.card_core.proofs.FreePages.{moved_free}
 use Rattle.card_core.proofs.SomeAdmitted.{of_card, some_acts, some_admitted}
 use Rattle.card_core.proofs.StatusChanged.{used_by_name}
-use Rattle.card_core.specs.ConfirmedForms.{BecomesAsAsked}
-use Rattle.card_types.specs.Represents.{held}
-use Rattle.card_types.specs.Well.{Well}
+use Rattle.card_core.specs.Prelude.{BecomesAsAsked, Well, held, managed_extradition}
 use Rattle.policy_machine.proofs.ExtraditionLaws.{moved_of_card}
-use Rattle.policy_machine.specs.Extradition.{managed_extradition}
 use Rattle.card_core.proofs.extradition.ExtraditionRequestConfirmedRequest.change.Goals as goal
 
 pub move_to-requires : goal.move_to-requires

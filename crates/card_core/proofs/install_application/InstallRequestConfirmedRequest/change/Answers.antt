@@ -5,13 +5,10 @@ use Rattle.card_core.proofs.Becoming.{installed, named_there}
 use Rattle.card_core.proofs.EntryCards.{adding_keeps, aids_kept, entry_cards}
 use Rattle.card_core.proofs.FreePages.{files_free}
 use Rattle.card_core.proofs.SomeAdmitted.{domain_named, domain_there, of_card, some_acts, some_admitted, some_load}
-use Rattle.card_core.specs.ConfirmedForms.{BecomesAsAsked}
-use Rattle.card_types.specs.Represents.{held}
+use Rattle.card_core.specs.Prelude.{BecomesAsAsked, NoneHas, held, managed_install}
 use Rattle.card_types.specs.declared.tables.Entry.{Entry}
 use Rattle.card_types.specs.declared.tables.LoadFile.{LoadFile}
 use Rattle.policy_machine.proofs.InstallApplicationLaws.{made_of_card}
-use Rattle.policy_machine.specs.InstallApplication.{managed_install}
-use Rattle.registry.specs.Adding.{NoneHas}
 use Rattle.card_core.proofs.install_application.InstallRequestConfirmedRequest.change.Goals as goal
 
 pub place_entry-requires : goal.place_entry-requires

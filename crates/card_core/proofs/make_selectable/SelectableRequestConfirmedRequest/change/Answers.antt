@@ -5,10 +5,8 @@ use Rattle.card_core.proofs.Becoming.{installed_at, made_selectable}
 use Rattle.card_core.proofs.EntryCards.{aids_kept, changing_keeps, entry_cards}
 use Rattle.card_core.proofs.FreePages.{files_free}
 use Rattle.card_core.proofs.SomeAdmitted.{of_card, some_acts, some_admitted}
-use Rattle.card_core.specs.ConfirmedForms.{BecomesAsAsked}
-use Rattle.card_types.specs.Well.{Well}
+use Rattle.card_core.specs.Prelude.{BecomesAsAsked, Well, managed_selectable}
 use Rattle.policy_machine.proofs.MakeSelectableLaws.{selectable_life, selectable_of_card}
-use Rattle.policy_machine.specs.MakeSelectable.{managed_selectable}
 use Rattle.card_core.proofs.make_selectable.SelectableRequestConfirmedRequest.change.Goals as goal
 
 pub set_life-requires : goal.set_life-requires

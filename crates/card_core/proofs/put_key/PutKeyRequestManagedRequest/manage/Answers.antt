@@ -1,15 +1,11 @@
 use Rattle.std.proofs.Common.{◌≡◌, [], ◌∷◌, ◌∙◌, None, Some, ap, inl, inr, length, refl, rules, sym, subst}
-use Rattle.card_types.specs.Represents.{IsInOrder}
-use Rattle.card_types.specs.Well.{IsKeyLength}
+use Rattle.card_core.specs.Prelude.{ActsIn, IsInOrder, IsKeyLength, IsRequestOf, IsWellFormed, RepresentsSecureChannel, command_form, key_rules, managed_put_key, secure_channel_for, sent_key, version_rules}
 use Rattle.policy_machine.proofs.FirstJoined.{first_behind, first_within}
 use Rattle.policy_machine.proofs.PutKeyLaws.{put_judged}
-use Rattle.policy_machine.specs.PutKeyRules.{key_rules, version_rules}
-use Rattle.policy_rules.specs.Requests.{IsRequestOf, IsWellFormed, sent_key}
 use Rattle.card_core.specs.declared.put_key.PutKeyRequest.{PutKeyRequest}
 use Rattle.policy_rules.specs.declared.put_key.SealedKey.{SealedKey}
 use Rattle.policy_rules.specs.declared.put_key.PutKeys.TheVariants.{One, Three}
 use Rattle.policy_rules.specs.declared.request.Request.TheVariants.{PutKey}
-use Rattle.policy_slots.specs.StateShown.{ActsIn}
 use Rattle.card_core.proofs.Answered.{entries_selected}
 use Rattle.card_core.proofs.Cards.{in_order}
 use Rattle.card_core.proofs.FreePages.{files_free}
@@ -17,11 +13,7 @@ use Rattle.card_core.proofs.PutKeyBrought.{IsFormedOne, IsFormedSet, brought, ch
 use Rattle.card_core.proofs.PutKeyDone.{body_one, body_three, fits_one, fits_three, judged_by, put_managed}
 use Rattle.card_core.proofs.Managing.{refusal_managed}
 use Rattle.card_core.proofs.PutKeyTables.{put_cards, puts_lent}
-use Rattle.card_core.specs.Kept.{RepresentsSecureChannel}
-use Rattle.card_core.specs.Offers.{secure_channel_for}
 use Rattle.card_core.proofs.put_key.PutKeyRequestManagedRequest.manage.Goals as goal
-use Rattle.policy_machine.specs.PutKey.{managed_put_key}
-use Rattle.policy_machine.specs.ManagedForm.{command_form}
 
 -- the keys of a well-formed request
 one_of : (put : PutKeyRequest) (sent : SealedKey) → put.keys.now ≡ One sent → IsWellFormed (PutKey put.replaced put.version put.keys.now) → IsFormedOne put.replaced put.version sent

@@ -1,33 +1,19 @@
 use Rattle.std.proofs.Common.{[], ◌+◌, ◌≤◌, List, None, Some, length, refl, sym, subst, ◌∙◌, rules, ◌≡◌, ℕ, inl, ap}
 use Rattle.std.specs.Prelude.{All}
 use Rattle.std.proofs.lemmas.List.Elements.{All-head}
-use Rattle.bertlv.specs.Spelling.{Element, AreElements}
-use Rattle.card_types.specs.Represents.{IsInOrder, used}
-use Rattle.card_types.specs.Well.{IsObject}
+use Rattle.card_core.specs.Prelude.{ActsIn, Admitted, Apdu, AreElements, Element, HasObjects, IsArranged, IsInOrder, IsManaged, IsObject, Judges, StoreDataField, TakesCommand, command_form, has_object_in, managed_store_data, new_tags, object_order, object_with, used, with_data, with_objects}
 use Rattle.card_types.specs.declared.limits.TheConstants.{OBJECTS}
 use Rattle.policy_machine.proofs.StoreDataElements.{elements_behind, none_left}
-use Rattle.policy_machine.specs.DataObjects.{new_tags, with_data, with_objects}
-use Rattle.policy_slots.specs.ObjectsHeld.{has_object_in}
-use Rattle.policy_slots.specs.StateShown.{ActsIn}
 use Rattle.card_core.proofs.Answered.{entries_selected}
 use Rattle.card_core.proofs.Cards.{in_order}
 use Rattle.card_core.proofs.FreePages.{files_free}
 use Rattle.card_core.proofs.Managing.{refusal_managed, replied_managed}
 use Rattle.card_core.proofs.ObjectSlots.{room_first}
 use Rattle.card_core.proofs.ObjectsPut.{ArePut, all_same, are_cards_after, at_most, none_put, put_after, same_after}
-use Rattle.card_core.specs.ObjectsPut.{object_with}
-use Rattle.apdu_core.specs.Apdu.{Apdu}
 use Rattle.apdu_core.specs.declared.reply.Status.{Status}
-use Rattle.card_types.specs.Registry.{object_order}
 use Rattle.card_types.specs.declared.tables.Tables.{Tables}
-use Rattle.policy_machine.specs.Admission.{Admitted}
-use Rattle.policy_machine.specs.Arranged.{IsArranged}
-use Rattle.policy_machine.specs.Commands.{TakesCommand, Judges}
-use Rattle.policy_machine.specs.StoreData.{HasObjects, StoreDataField, managed_store_data}
-use Rattle.card_core.specs.Manages.{IsManaged}
 use Rattle.card_types.specs.Registry as registry
 use Rattle.card_core.proofs.store_data.StoreRequestManagedRequest.manage.Goals as goal
-use Rattle.policy_machine.specs.ManagedForm.{command_form}
 
 -- the data objects of a command
 objects_of : (objects : List ℕ) (command : Apdu) → objects ≡ command.body → StoreDataField command.body

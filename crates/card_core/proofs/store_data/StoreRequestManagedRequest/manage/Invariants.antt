@@ -1,10 +1,7 @@
 use Rattle.std.proofs.Common.{◌≡◌, true, List, length}
 use Rattle.std.specs.Prelude.{All}
-use Rattle.bertlv.specs.Spelling.{AreElements, Element}
-use Rattle.card_types.specs.Well.{IsObject}
-use Rattle.rec_store.specs.Room.{HasRoomFor}
+use Rattle.card_core.specs.Prelude.{AreElements, Element, HasRoomFor, IsObject, object_pages}
 use Rattle.card_core.proofs.ObjectsPut.{ArePut, SameButObjects}
-use Rattle.registry.specs.Pages.{object_pages}
 use Rattle.card_core.proofs.store_data.StoreRequestManagedRequest.manage.Given as goal
 
 abbrev pub invariant-loop-element : goal.invariant-loop-element
