@@ -12,16 +12,10 @@ use Rattle.card_core.proofs.LoadsKept.{over_loading}
 use Rattle.card_types.specs.declared.tables.Entry.{Entry}
 use Rattle.card_core.proofs.perform.perform.Goals as goal
 
+-- SELECT
 pub select-requires-clause-in_order : goal.select-requires-clause-in_order
 select-requires-clause-in_order g c = subst IsInOrder (sym c.tables.ensures.tables) (in_order c.args.records.now.tables c.requires.ready.cards)
 
-pub get_data-requires-clause-in_order : goal.get_data-requires-clause-in_order
-get_data-requires-clause-in_order g c = subst IsInOrder (sym c.tables-in-Get.ensures.tables) (in_order c.args.records.now.tables c.requires.ready.cards)
-
-pub external_authenticate-requires-clause-formed : goal.external_authenticate-requires-clause-formed
-external_authenticate-requires-clause-formed g c = subst IsWellFormed c.in-Authenticate.is c.requires.formed
-
--- SELECT
 pub returns-in-Select-clause-done : goal.returns-in-Select-clause-done
 returns-in-Select-clause-done g c = rw c.requires.ready.unwritten (λ page judged whole shown asked.
     let all = c.args.held.now in
@@ -46,6 +40,9 @@ returns-in-LessChannel-clause-done g c = rw c.requires.ready.unwritten (λ page 
     c.args.request.now _ c.in-LessChannel.is (λ no. no) asked.asks shown.loading (λ is. rw c.requires.ready.empty (c.close_channel.ensures.done page tables judged shown.on is)))
 
 -- GET DATA
+pub get_data-requires-clause-in_order : goal.get_data-requires-clause-in_order
+get_data-requires-clause-in_order g c = subst IsInOrder (sym c.tables-in-Get.ensures.tables) (in_order c.args.records.now.tables c.requires.ready.cards)
+
 pub returns-in-Get-clause-done : goal.returns-in-Get-clause-done
 returns-in-Get-clause-done g c = rw c.requires.ready.unwritten (λ page judged whole shown asked.
     let all = c.args.held.now in
@@ -72,6 +69,9 @@ returns-in-Initialize-clause-done g c = rw c.requires.ready.unwritten (λ page j
     (λ acts. c.initialize_update.ensures.done page judged acts is)))
 
 -- EXTERNAL AUTHENTICATE
+pub external_authenticate-requires-clause-formed : goal.external_authenticate-requires-clause-formed
+external_authenticate-requires-clause-formed g c = subst IsWellFormed c.in-Authenticate.is c.requires.formed
+
 pub returns-in-Authenticate-clause-done : goal.returns-in-Authenticate-clause-done
 returns-in-Authenticate-clause-done g c = rw c.requires.ready.unwritten (λ page judged whole shown asked.
     let tables = c.args.records.now.tables in
