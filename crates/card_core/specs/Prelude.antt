@@ -1,4 +1,4 @@
--- The names that the contracts here cite, passed on from one place. Declares nothing.
+-- The names that contracts and proofs here cite, passed on from one place. Declares nothing.
 pub use Rattle.apdu_core.specs.Apdu.{Apdu, Short, apdu_of}
 pub use Rattle.apdu_core.specs.Reply.{status_bytes}
 pub use Rattle.arrayvec.specs.ArrayVec.{array_vec_len}

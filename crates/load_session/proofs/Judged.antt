@@ -9,26 +9,16 @@ use Rattle.std.proofs.lemmas.List.Sorted.{sum_by-IsPermutation}
 use Rattle.std.proofs.lemmas.List.Sums.{sum_by-cons}
 use Rattle.bertlv.proofs.LengthLemmas.{length_front}
 use Rattle.card_check.proofs.Counting.{length_of_pages}
-use Rattle.card_check.specs.IsCard.{HasPages, IsInLoadPages, pages_named}
-use Rattle.card_check.specs.LoadPages.{HasPageNumbers}
+use Rattle.load_session.specs.Prelude.{Block, BlockPasses, BringsBytes, ForEachSaid, HasNoLength, HasNoRoom, HasOtherCount, HasOtherHash, HasPageNumbers, HasPages, HaveHash, IsFed, IsInLoadPages, Registry, Represents, RepresentsLoad, StopsBlock, file_of, pages_in, pages_named, pages_of, pages_used, size_of, used}
 use Rattle.card_types.specs.Registry as registry
-use Rattle.card_types.specs.Registry.{Registry}
-use Rattle.card_types.specs.Represents.{Represents, file_of, used}
-use Rattle.card_types.specs.Well.{pages_of}
 use Rattle.card_types.specs.declared.limits.TheConstants.{FILE_LIMIT, LOAD_PAGES}
 use Rattle.card_types.specs.declared.tables.Entry.{Entry}
 use Rattle.card_types.specs.declared.tables.LoadFile.{LoadFile}
 use Rattle.card_types.specs.declared.tables.Tables.{Tables}
-use Rattle.load_session.specs.Hash.{IsFed}
-use Rattle.load_session.specs.Judging.{BlockPasses, ForEachSaid, StopsBlock}
-use Rattle.load_session.specs.Paged.{size_of}
-use Rattle.load_session.specs.Pages.{pages_in}
-use Rattle.load_session.specs.Session.{RepresentsLoad}
 use Rattle.load_session.specs.declared.block.BlockStop.{BlockStop}
 use Rattle.load_session.specs.declared.block.BlockStop.TheVariants.{FirstBlock, NoRoom, Count, Hash}
 use Rattle.load_session.specs.declared.block.Taken.{Taken}
 use Rattle.load_session.specs.declared.session.LoadSession.{LoadSession}
-use Rattle.policy_machine.specs.LoadBlocks.{Block, BringsBytes, HasNoLength, HasNoRoom, HasOtherCount, HasOtherHash, HaveHash, pages_used}
 use Rattle.policy_machine.specs.State as volatile
 
 -- the bytes from one on are those up to the end

@@ -6,17 +6,12 @@ use Rattle.std.proofs.lemmas.Bool.Decides.{nat_tests}
 use Rattle.std.proofs.lemmas.List.{append-nil, map-append}
 use Rattle.std.proofs.lemmas.List.Elements.{All-contains, All-head, All-nil, All-push, All-tail, Contains-append_left, Contains-append_right}
 use Rattle.card_check.proofs.LoadPagesNamed.{are_none}
-use Rattle.card_check.specs.IsCard.{pages_named}
-use Rattle.page_journal.specs.Pages.{IsLoadPage}
+use Rattle.load_session.specs.Prelude.{AreTaken, IsFree, IsLoadPage, IsWhole, PagesStayWhole, TablesSayTheSame, loaded, numbers, page_written, pages_named, used}
 use Rattle.card_types.proofs.Members.{contains_first, contains_later}
-use Rattle.card_types.specs.Represents.{used}
 use Rattle.card_types.specs.declared.tables.Tables.{Tables}
 use Rattle.load_session.proofs.PagesKept.{own_next}
-use Rattle.load_session.specs.Laws.{PagesStayWhole, TablesSayTheSame}
-use Rattle.load_session.specs.Loaded.{AreTaken, IsWhole, loaded, numbers, page_written}
 use Rattle.load_session.specs.declared.load_write.LoadWrite.{LoadWrite}
 use Rattle.rec_store.proofs.Reopening.{says_same}
-use Rattle.rec_store.specs.Reopens.{IsFree}
 
 pub written_here : (page : ℕ → List ℕ) (write : LoadWrite) → page_written page write write.number ≡ write.page.bytes
 written_here page write = grind (arith, nat_tests)

@@ -7,17 +7,12 @@ use Rattle.std.proofs.lemmas.List.{append-nil, map-append, take_more}
 use Rattle.std.proofs.lemmas.List.Elements.{Contains-append_cases, Contains-append_left, Contains-append_right, Contains-push_cases}
 use Rattle.std.proofs.lemmas.List.Folds.{concat-append}
 use Rattle.card_check.proofs.LoadPagesNamed.{all_of_members}
-use Rattle.card_check.specs.IsCard.{pages_named}
-use Rattle.page_journal.specs.Pages.{IsLoadPage}
-use Rattle.card_check.specs.LoadPages.{HasMarks, all_pages}
+use Rattle.load_session.specs.Prelude.{HasMarks, IsFree, IsLoadPage, IsPageInUse, all_pages, pages_named, used}
 use Rattle.card_types.proofs.Members.{contains_first, contains_later}
-use Rattle.card_types.specs.Represents.{used}
 use Rattle.card_types.specs.declared.limits.TheConstants.{LOAD_PAGES}
 use Rattle.card_types.specs.declared.tables.LoadFile.{LoadFile}
 use Rattle.card_types.specs.declared.tables.Tables.{Tables}
 use Rattle.load_session.proofs.PagesInUse.{named_among, used_next, used_pass}
-use Rattle.load_session.specs.Pages.{IsPageInUse}
-use Rattle.rec_store.specs.Reopens.{IsFree}
 
 -- a page that is no load page has no mark
 pub marks_pass : (marks : List Bool) (before : List ℕ) (page : ℕ) → HasMarks marks before → (IsLoadPage page → ⊥) → HasMarks marks (before ++ page ∷ [])

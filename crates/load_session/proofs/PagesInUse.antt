@@ -9,14 +9,11 @@ use Rattle.std.proofs.lemmas.Bool.{cases_lt}
 use Rattle.std.proofs.lemmas.Cmp.{nat_eq_equiv}
 use Rattle.std.proofs.lemmas.Map.Steps.{le-length_from_below}
 use Rattle.std.proofs.lemmas.Map.Views.{list_any-from_Contains}
-use Rattle.card_check.specs.IsCard.{pages_named}
+use Rattle.load_session.specs.Prelude.{IsPageInUse, pages_in, pages_named, pages_of, used}
 use Rattle.card_types.proofs.Members.{contains_cases, contains_map}
-use Rattle.card_types.specs.Represents.{used}
-use Rattle.card_types.specs.Well.{pages_of}
 use Rattle.card_types.specs.declared.limits.TheConstants.{LOAD_PAGES}
 use Rattle.card_types.specs.declared.tables.LoadFile.{LoadFile}
 use Rattle.card_types.specs.declared.tables.Tables.{Tables}
-use Rattle.load_session.specs.Pages.{IsPageInUse, pages_in}
 
 -- one slot more
 module _ {T : Type 0} (slots : List (Option T)) (i : ℕ) (within : i < length slots) where

@@ -12,14 +12,10 @@ use Rattle.std.proofs.lemmas.Map.Keys.{IsDistinct-push}
 use Rattle.std.proofs.lemmas.Map.Views.{Contains-from_any}
 use Rattle.card_check.proofs.Counting.{length_of_pages}
 use Rattle.card_check.proofs.LoadPagesNamed.{are_none}
-use Rattle.card_check.specs.IsCard.{HasPages}
-use Rattle.page_journal.specs.Pages.{IsLoadPage}
+use Rattle.load_session.specs.Prelude.{AreOwn, HasPages, IsFree, IsLoadPage, bytes_in, padded, size_of}
 use Rattle.card_types.proofs.Members.{contains_first, contains_later}
 use Rattle.card_types.specs.declared.tables.Tables.{Tables}
-use Rattle.load_session.specs.Paged.{bytes_in, padded, size_of}
 use Rattle.load_session.specs.declared.paged.PagedBytes.{PagedBytes}
-use Rattle.load_session.specs.Pages.{AreOwn}
-use Rattle.rec_store.specs.Reopens.{IsFree}
 
 is_false : (b : Bool) → (b ≡ true → ⊥) → b ≡ false
 is_false true never = absurd (never refl)

@@ -4,8 +4,7 @@ use Rattle.std.specs.List.{concat}
 use Rattle.std.proofs.lemmas.List.Elements.{All-contains}
 use Rattle.card_check.proofs.LoadPagesNamed.{all_of_members}
 use Rattle.load_session.proofs.PagesKept.{same_pages}
-use Rattle.load_session.specs.Laws.{ReadyStays, SessionStays}
-use Rattle.rec_store.specs.Reopens.{IsFree}
+use Rattle.load_session.specs.Prelude.{IsFree, ReadyStays, SessionStays}
 
 pub ready_stays : ReadyStays
 ready_stays before after kept stay ready =

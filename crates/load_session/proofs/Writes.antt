@@ -4,15 +4,11 @@ use Rattle.std.specs.Prelude.{All, Contains}
 use Rattle.std.proofs.lemmas.Bool.{cases_eq}
 use Rattle.std.proofs.lemmas.List.Elements.{All-contains}
 use Rattle.card_types.proofs.Members.{contains_map}
-use Rattle.card_types.specs.Registry.{Registry}
+use Rattle.load_session.specs.Prelude.{Contents, IsSpare, Keeps, LeavesOnly, Registry, Reopens, load_page, loaded, numbers, page_written}
 use Rattle.flash_core.specs.declared.flash.Flash.{Ghosts as Flash}
 use Rattle.flash_core.specs.declared.page.Page.{Page}
-use Rattle.page_journal.specs.Moments.{LeavesOnly}
 use Rattle.rec_store.proofs.Leaving.{joined, unmoved}
-use Rattle.rec_store.specs.Contents.{Contents}
-use Rattle.rec_store.specs.Reopens.{IsSpare, Keeps, Reopens, load_page}
 use Rattle.load_session.proofs.Loading.{loaded_more, written_apart, written_here}
-use Rattle.load_session.specs.Loaded.{loaded, numbers, page_written}
 use Rattle.load_session.specs.declared.load_write.LoadWrite.{LoadWrite}
 
 -- power lost between the two moments leaves the registry

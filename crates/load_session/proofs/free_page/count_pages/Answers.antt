@@ -2,10 +2,8 @@ use Rattle.std.proofs.Common.{◌≡◌, ◌<◌, ◌≤◌, List, Option, None,
 use Rattle.std.specs.Prelude.{All}
 use Rattle.std.proofs.lemmas.List.{get_or_read, take_all}
 use Rattle.std.proofs.lemmas.List.Elements.{All-contains, All-push}
-use Rattle.card_check.specs.IsCard.{IsInLoadPages}
+use Rattle.load_session.specs.Prelude.{HasPageNumbers, IsInLoadPages, used}
 use Rattle.card_types.proofs.Shows.{used_from_held}
-use Rattle.card_check.specs.LoadPages.{HasPageNumbers}
-use Rattle.card_types.specs.Represents.{used}
 use Rattle.card_types.specs.declared.tables.LoadFile.{LoadFile}
 use Rattle.load_session.proofs.PagesInUse.{pages_next, pages_pass, used_next, used_pass}
 use Rattle.load_session.proofs.free_page.count_pages.Goals as goal

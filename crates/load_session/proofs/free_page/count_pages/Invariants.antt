@@ -1,9 +1,7 @@
 use Rattle.std.proofs.Common.{◌≡◌, ◌*◌, ◌≤◌, take}
 use Rattle.std.specs.Prelude.{All}
 use Rattle.std.specs.List.{sum_by}
-use Rattle.card_check.specs.LoadPages.{HasPageNumbers}
-use Rattle.card_types.specs.Represents.{used}
-use Rattle.card_types.specs.Well.{pages_of}
+use Rattle.load_session.specs.Prelude.{HasPageNumbers, pages_of, used}
 use Rattle.card_types.specs.declared.tables.LoadFile.{LoadFile}
 use Rattle.load_session.proofs.free_page.count_pages.Given as goal
 

@@ -2,12 +2,10 @@ use Rattle.std.proofs.Common.{◌≡◌, ℕ, ◌+◌, ◌<◌, ◌≤◌, inl, 
 use Rattle.std.specs.Prelude.{Contains}
 use Rattle.std.proofs.lemmas.Bool.{cases_lt}
 use Rattle.card_check.proofs.LoadPagesNamed.{no_marks}
-use Rattle.card_check.specs.LoadPages.{all_pages}
+use Rattle.load_session.specs.Prelude.{IsFree, IsPageInUse, all_pages}
 use Rattle.card_types.specs.declared.limits.TheConstants.{LOAD_PAGES}
 use Rattle.load_session.proofs.PageMarks.{marked_in_use, unmarked_apart, unmarked_free}
 use Rattle.load_session.proofs.PagesInUse.{all_in_use, in_use_next}
-use Rattle.load_session.specs.Pages.{IsPageInUse}
-use Rattle.rec_store.specs.Reopens.{IsFree}
 use Rattle.load_session.proofs.free_page.free_page.Goals as goal
 
 pub mark_files-requires-clause-none : goal.mark_files-requires-clause-none

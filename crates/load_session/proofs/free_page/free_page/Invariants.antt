@@ -1,6 +1,5 @@
 use Rattle.std.proofs.Common.{ℕ, ◌-◌, ◌<◌, ◌≤◌}
-use Rattle.load_session.specs.Pages.{IsPageInUse}
-use Rattle.page_journal.specs.Pages.{IsLoadPage}
+use Rattle.load_session.specs.Prelude.{IsLoadPage, IsPageInUse}
 use Rattle.load_session.proofs.free_page.free_page.Given as goal
 
 abbrev pub invariant-loop-marks : goal.invariant-loop-marks

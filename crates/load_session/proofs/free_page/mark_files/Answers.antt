@@ -1,10 +1,8 @@
 use Rattle.std.proofs.Common.{◌≡◌, ◌<◌, ◌≤◌, List, Option, None, length, take, get_or, ap, sym, subst, ◌∙◌, arith}
 use Rattle.std.proofs.lemmas.List.{get_or_read, take_all}
 use Rattle.std.proofs.lemmas.List.Elements.{All-contains}
-use Rattle.card_check.specs.IsCard.{IsInLoadPages}
-use Rattle.card_check.specs.LoadPages.{HasMarks, all_pages}
+use Rattle.load_session.specs.Prelude.{HasMarks, IsInLoadPages, all_pages, used}
 use Rattle.card_types.proofs.Shows.{used_from_held}
-use Rattle.card_types.specs.Represents.{used}
 use Rattle.card_types.specs.declared.tables.LoadFile.{LoadFile}
 use Rattle.load_session.proofs.PageMarks.{pages_of_next, pages_of_pass}
 use Rattle.load_session.proofs.free_page.mark_files.Goals as goal

@@ -2,8 +2,7 @@ use Rattle.std.proofs.Common.{◌≡◌, ℕ, List, ap, subst, ◌∙◌, rules}
 use Rattle.std.specs.Prelude.{Contains}
 use Rattle.load_session.proofs.Loading.{loaded_more, taken_next, written_apart, written_here}
 use Rattle.load_session.proofs.PagesKept.{bytes_next, own_next}
-use Rattle.load_session.specs.Loaded.{IsWhole, loaded}
-use Rattle.load_session.specs.Paged.{padded}
+use Rattle.load_session.specs.Prelude.{IsWhole, loaded, padded}
 use Rattle.load_session.specs.declared.load_write.LoadWrite.{LoadWrite}
 use Rattle.load_session.proofs.paged.PagedBytes.write_rest.Goals as goal
 

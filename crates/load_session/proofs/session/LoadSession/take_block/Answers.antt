@@ -1,14 +1,10 @@
 use Rattle.std.proofs.Common.{◌≡◌, ◌++◌, ◌+◌, ◌-◌, drop, take, true, ℕ, List, Some, refl, ap, sym, subst, ◌∙◌}
 use Rattle.std.specs.Prelude.{length, map}
 use Rattle.std.specs.List.{concat}
-use Rattle.card_types.specs.Well.{pages_of}
+use Rattle.load_session.specs.Prelude.{RepresentsAfter, RepresentsWhole, loaded, pages_of, size_of, with_block}
 use Rattle.load_session.proofs.Judged.{up_to_end}
 use Rattle.load_session.proofs.Loading.{pages_stay_whole}
-use Rattle.load_session.specs.Loaded.{loaded}
-use Rattle.load_session.specs.Paged.{size_of}
-use Rattle.load_session.specs.Session.{RepresentsAfter, RepresentsWhole}
 use Rattle.load_session.specs.declared.session.LoadSession.{LoadSession}
-use Rattle.policy_machine.specs.LoadBlocks.{with_block}
 use Rattle.load_session.proofs.session.LoadSession.take_block.Goals as goal
 
 pub returns-clause-stands : goal.returns-clause-stands
