@@ -119,7 +119,7 @@ done
 echo "each reply wanted"
 say replay "%s s  %s of run's" "$(seconds "${best["replay log"]}")" "$(over "${best["run sessions"]}" "${best["replay log"]}")"
 echo "the same commands by a script"
-say play "%s s  %s of run's (goal: at least 0.45)" "$(seconds "${best["play script"]}")" "$(over "${best["run sessions"]}" "${best["play script"]}")"
+say play "%s s  %s of run's (goal: at least 0.6)" "$(seconds "${best["play script"]}")" "$(over "${best["run sessions"]}" "${best["play script"]}")"
 
 race "desk receipts" "openssl_desk receipts"
 echo "200,000 receipts judged"
