@@ -42,20 +42,6 @@ impl LoadSession {
         }
     }
 
-    /// The AID of the Executable Load File.
-    pub fn aid(&self) -> Aid
-        ensures { result ≡ load_aid self.now }
-    {
-        self.aid
-    }
-
-    /// The slot of its security domain.
-    pub fn domain(&self) -> u8
-        ensures { result ≡ load_slot self.now }
-    {
-        self.domain
-    }
-
     /// The number of the block that comes next.
     pub fn next(&self) -> u16
         ensures { result ≡ blocks_taken self.now }

@@ -39,12 +39,13 @@ impl LoadSession {
         let bytes = &block[taken.start..];
         self.announced = Some(taken.size);
         self.blocks += 1;
-        self.hasher.feed(bytes);
         self.paged.add(tables, bytes, writes);
-        if !last {
+        if last {
+            // The hash of the whole file was compared when this block was judged.
+            self.paged.close(tables, writes);
             return;
         }
-        self.paged.close(tables, writes);
+        self.hasher.feed(bytes);
     }
 
     /// The Executable Load File, once its last block was taken.

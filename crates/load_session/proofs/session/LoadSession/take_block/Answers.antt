@@ -7,15 +7,15 @@ use Rattle.load_session.proofs.Loading.{pages_stay_whole}
 use Rattle.load_session.specs.declared.session.LoadSession.{LoadSession}
 use Rattle.load_session.proofs.session.LoadSession.take_block.Goals as goal
 
-pub returns-clause-stands : goal.returns-clause-stands
-returns-clause-stands c page load has stands =
+pub returns-then-last-clause-stands : goal.returns-then-last-clause-stands
+returns-then-last-clause-stands c page load has stands =
     let block = c.args.block.now in
     let start = c.args.taken.start in
     let bytes = take (length block - start) (drop start block) in
     let sent : bytes ≡ drop start block = up_to_end block start in
     let after = loaded page c.close.new.writes.items in
-    let kept : LoadSession = record c.args.self.now { announced = Some c.args.taken.size; hasher = c.feed.new.self; paged = c.close.new.self; blocks = c.args.self.now.blocks + 1 } in
-    let last : c.args.last ≡ true = cc (c.if-not-last.false) in
+    let kept : LoadSession = record c.args.self.now { announced = Some c.args.taken.size; paged = c.close.new.self; blocks = c.args.self.now.blocks + 1 } in
+    let last : c.args.last ≡ true = cc (c.if-last.true) in
     let size : size_of c.add.new.self ≡ c.args.taken.size = c.add.ensures.size ∙ ap (λ (b : List ℕ). size_of c.args.self.now.paged + length b) sent ∙ c.requires.taken.all last in
     let whole : RepresentsWhole after c.args.tables.now kept (with_block load c.args.taken.size (drop start block)) = record {
       of = record {
