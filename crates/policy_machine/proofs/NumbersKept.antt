@@ -1,10 +1,11 @@
 -- Receipt numbers after a change of a registry.
-use Rattle.std.proofs.Common.{◌≡◌, inl, inr, ℕ, List, Option, None, Some, refl, ap, sym, subst, ◌∙◌}
+use Rattle.std.proofs.Common.{◌≡◌, inl, inr, ℕ, Bool, List, Option, None, Some, cond, refl, ap, sym, subst, ◌∙◌}
+use Rattle.std.proofs.lemmas.Bool.{cond_both}
 use Rattle.std.specs.Prelude.{find, map}
 use Rattle.std.specs.Option.{option_map}
 use Rattle.card_types.proofs.MappedEntries.{find_mapped}
 use Rattle.card_types.proofs.NamedThings.{aid_cases, beside_found}
-use Rattle.policy_machine.specs.Prelude.{Entry, IsEntryAdded, IsFreeAid, IsOfCard, Registry, entry_named, number_of, same_aid}
+use Rattle.policy_machine.specs.Prelude.{Entry, IsEntryAdded, IsFreeAid, IsOfCard, Registry, entry_named, number_of, same_aid, with_entries}
 use Rattle.policy_machine.proofs.Lawful.{some_same}
 
 -- who is named before and after has the same number
@@ -31,6 +32,16 @@ changed_numbers before after change entries keeps aid n n' was is =
     by : (o : Option Entry) → receipts_in (option_map change o) ≡ receipts_in o
     by None = refl
     by (Some entry) = ap Some (keeps entry).1
+
+-- where some entries are
+pub some_changed : (registry changed : Registry) (these : List ℕ → Bool) (change : Entry → Entry)
+    → changed.entries ≡ (with_entries registry these change).entries
+    → ((entry : Entry) → ((change entry).aid ≡ entry.aid) × ((change entry).receipts ≡ entry.receipts)) → KeepsNumbers registry changed
+some_changed registry changed these change entries keeps =
+    changed_numbers registry changed (λ entry. cond (these entry.aid) (change entry) entry) entries (λ entry. (
+      cond_both (these entry.aid) (change entry) entry (λ (e : Entry). e.aid ≡ entry.aid) (λ _. (keeps entry).0) (λ _. refl),
+      cond_both (these entry.aid) (change entry) entry (λ (e : Entry). e.receipts ≡ entry.receipts) (λ _. (keeps entry).1) (λ _. refl),
+    ))
 
 -- where each entry that is named is the one that was
 pub found_numbers : (before after : Registry) → ((aid : List ℕ) (entry : Entry) → entry_named after aid ≡ Some entry → entry_named before aid ≡ Some entry)

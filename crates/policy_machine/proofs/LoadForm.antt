@@ -1,10 +1,15 @@
--- LOAD: its rules fail of both of two commands that are alike, or of neither.
-use Rattle.std.proofs.Common.{◌≡◌, ◌≢◌, inl, inr, sym, ◌∙◌}
-use Rattle.policy_machine.specs.Prelude.{Admitted, HasNoLength, HasNoRoom, HasOtherCount, HasOtherHash, InLoad, IsAtOrAbove, IsLoadOn, LoadSession, LoadingFails, acting, block_of, loading}
+-- LOAD: what the laws over all commands need of the form.
+use Rattle.std.proofs.Common.{◌≡◌, ◌≢◌, inl, inr, refl, sym, ◌∙◌}
+use Rattle.policy_machine.specs.Prelude.{Admitted, HasNoLength, HasNoRoom, HasOtherCount, HasOtherHash, InLoad, IsAtOrAbove, IsLoadOn, LoadSession, LoadingFails, acting, block_of, changing, loading, managing}
 use Rattle.policy_machine.specs.declared.load.RuleLO.{RuleLO}
 use Rattle.policy_machine.specs.declared.load.RuleLO.TheVariants.{LO1, LO2, LO3, LO4, LO5, LO6, LO7, LO8}
 use Rattle.policy_machine.specs.declared.rule.Rule.TheVariants.{LO, M}
 use Rattle.policy_machine.proofs.Alike.{IsAlike, IsAlikeForm, LooksAtSeen, alike_back, by_seen, management_alike, unchanged}
+use Rattle.policy_machine.proofs.FormLaws.{FormLaws}
+use Rattle.policy_machine.proofs.Instructed.{among}
+use Rattle.policy_machine.proofs.LoadLaws.{load_lawful}
+use Rattle.policy_machine.proofs.LoadRises.{load_rising}
+use Rattle.policy_machine.proofs.LoadSpares.{load_sparing}
 
 -- the load session of the channel is the same one
 on_alike : (load : LoadSession) → IsAlike (λ x. IsLoadOn x load)
@@ -32,7 +37,10 @@ loading_alike LO7 a b alike (last, elsewhere) =
     (last_alike a b alike last, in_load (λ x load. IsAtOrAbove x.at.registry (acting x) load.domain → ⊥) (λ load x. unchanged) a b alike elsewhere)
 loading_alike LO8 a b alike fails = by_seen (λ x. LoadingFails x LO8) (λ x. unchanged) a b alike fails
 
-pub load_alike : IsAlikeForm loading
+load_alike : IsAlikeForm loading
 load_alike (M rule) a b alike fails = management_alike rule a b alike fails
 load_alike (LO rule) a b alike fails = loading_alike rule a b alike fails
 load_alike rule a b alike fails = absurd fails
+
+pub load_laws : FormLaws loading
+load_laws = record { lawful = load_lawful (among managing 0xE8 refl); rising = load_rising; sparing = load_sparing (among changing 0xE8 refl); alike = inl load_alike }
