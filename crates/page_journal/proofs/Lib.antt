@@ -2,6 +2,7 @@ mod Runs
 mod Causes
 mod Copies
 mod Descriptors
+mod PageKinds
 mod Lists
 mod PagesStand
 mod Commits

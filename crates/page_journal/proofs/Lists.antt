@@ -10,19 +10,17 @@ use Rattle.page_journal.specs.Moments.{Leaves, first_of, current}
 use Rattle.page_journal.specs.Phases.{IsStaged, CopiesOf, Names, HomesOf}
 use Rattle.page_journal.specs.Store.{AreStorePages, IsListed}
 use Rattle.page_journal.specs.Touches.{SameOutside}
+use Rattle.page_journal.specs.Pages.{IsStorePage}
 use Rattle.page_journal.proofs.Descriptors.{place_found, place_home}
+use Rattle.page_journal.proofs.PageKinds.{IsGate, IsPage, IsPastJournal, copy_page, descriptor_page, gate_page}
 
 abbrev Pages : Type 0
 Pages = List (ℕ × Page)
 
--- a store page or a load page
-abbrev pub IsPage : ℕ → Type 0
-IsPage page = (page < 45) ⊎ (96 ≤ page)
-
-pub gate_same : (a b : List Page) → slice_get a 45 ≡ slice_get b 45 → is_open a ≡ is_open b
+pub gate_same : (a b : List Page) → slice_get a gate_page ≡ slice_get b gate_page → is_open a ≡ is_open b
 gate_same a b same = ap (λ (o : Option Page). get_or (bytes_of o) 0 0 == 165) same
 
-pub descriptor_same : (a b : List Page) → slice_get a 46 ≡ slice_get b 46 → descriptor a ≡ descriptor b
+pub descriptor_same : (a b : List Page) → slice_get a descriptor_page ≡ slice_get b descriptor_page → descriptor a ≡ descriptor b
 descriptor_same a b same = ap bytes_of same
 
 pub stored_shut : (pages : List Page) (page : ℕ) → is_open pages ≡ false → stored pages page ≡ slice_get pages page
@@ -32,7 +30,7 @@ pub stored_open : (pages : List Page) (page : ℕ) → is_open pages ≡ true �
 stored_open pages page opened = ap (λ b. slice_get pages (if b then copied_place (descriptor pages) page else page)) opened
 
 -- with a closed gate
-pub shut : (list : ℕ → Option Page) (loose : List ℕ) (c : List Page) → is_open c ≡ false → ((p : ℕ) → p < 45 → slice_get c p ≡ list p) → ((p : ℕ) → 96 ≤ p → (Contains loose p → ⊥) → slice_get c p ≡ list p) → Leaves list loose c
+pub shut : (list : ℕ → Option Page) (loose : List ℕ) (c : List Page) → is_open c ≡ false → ((p : ℕ) → IsStorePage p → slice_get c p ≡ list p) → ((p : ℕ) → IsPastJournal p → (Contains loose p → ⊥) → slice_get c p ≡ list p) → Leaves list loose c
 shut list loose c closed store load = record {
   sound = λ opened. absurd (false≢true (sym closed ∙ opened));
   store = λ p lt. stored_shut c p closed ∙ store p lt;
@@ -69,7 +67,7 @@ look (e ∷ pool) p = by_head (cases_eq e.0 p) (look pool p)
     by_head (inr ne) (inl f) = inl (suc f.0, f.1, f.2, before f.0 ne f.3, miss ne ∙ f.4)
     by_head (inr ne) (inr m) = inr (all ne m.0, miss ne ∙ m.1)
 
-pub staged_store : (pool : Pages) (p : ℕ) → AreStorePages pool → IsStaged pool p → p < 45
+pub staged_store : (pool : Pages) (p : ℕ) → AreStorePages pool → IsStaged pool p → IsStorePage p
 staged_store pool p homes is = ⊎_elim (λ (f : Found pool p). homes f.0 (p, f.1) f.2) (λ (m : Missing pool p). absurd (none m.1)) (look pool p)
   where
     none : staged pool p ≡ None → ⊥
@@ -92,7 +90,7 @@ names_valid pool bytes some room homes distinct names = record {
 }
 
 -- no page of the list is the gate
-pub no_gate : (p : ℕ) → IsPage p → p ≡ 45 → ⊥
+pub no_gate : (p : ℕ) → IsPage p → IsGate p → ⊥
 no_gate p (inl lt) is = omega (arith, lt, is)
 no_gate p (inr le) is = omega (arith, le, is)
 
@@ -103,14 +101,14 @@ pub record Recorded (pool : Pages) (start c : List Page) : Type 0 where
   pub others : (p : ℕ) → (IsStaged pool p → ⊥) → IsPage p → slice_get c p ≡ slice_get start p
 
 -- they stay so where only the gate and the pages in place are torn
-pub recorded_after : (inside : ℕ → Type 0) (pool : Pages) (start a c : List Page) → AreStorePages pool → ((p : ℕ) → inside p → (p ≡ 45) ⊎ IsStaged pool p) → SameOutside inside a c → Recorded pool start a → Recorded pool start c
+pub recorded_after : (inside : ℕ → Type 0) (pool : Pages) (start a c : List Page) → AreStorePages pool → ((p : ℕ) → inside p → IsGate p ⊎ IsStaged pool p) → SameOutside inside a c → Recorded pool start a → Recorded pool start c
 recorded_after inside pool start a c homes within same was = record {
-  names = subst (Names pool) (sym (descriptor_same c a (same 46 (λ i. low 46 (omega arith) (within 46 i))))) was.names;
-  copies = λ i e lt is. same (47 + i) (λ j. low (47 + i) (omega arith) (within (47 + i) j)) ∙ was.copies i e lt is;
+  names = subst (Names pool) (sym (descriptor_same c a (same descriptor_page (λ i. low descriptor_page (omega arith) (within descriptor_page i))))) was.names;
+  copies = λ i e lt is. same (copy_page i) (λ j. low (copy_page i) (omega arith) (within (copy_page i) j)) ∙ was.copies i e lt is;
   others = λ p out page. same p (λ i. ⊎_elim (λ gate. no_gate p page gate) out (within p i)) ∙ was.others p out page;
 }
   where
-    low : (p : ℕ) → 46 ≤ p → (p ≡ 45) ⊎ IsStaged pool p → ⊥
+    low : (p : ℕ) → descriptor_page ≤ p → IsGate p ⊎ IsStaged pool p → ⊥
     low p le (inl gate) = omega (arith, le, gate)
     low p le (inr is) = omega (arith, le, staged_store pool p homes is)
 

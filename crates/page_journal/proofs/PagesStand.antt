@@ -1,20 +1,21 @@
 -- Where a page stands.
-use Rattle.std.proofs.Common.{◌≡◌, inl, inr, ℕ, ◌+◌, List, refl, sym, ap, ◌∙◌, arith}
+use Rattle.std.proofs.Common.{◌≡◌, inl, inr, ℕ, List, refl, sym, ap, ◌∙◌, arith}
 use Rattle.std.specs.Prelude.{slice_index}
 use Rattle.std.proofs.lemmas.Bool.{cases_order}
 use Rattle.flash_core.specs.declared.page.Page.{Page}
 use Rattle.page_journal.specs.Journal.{IsValid, copied_place, descriptor}
 use Rattle.page_journal.specs.Laws.{IsCopyOf, PagesStand}
 use Rattle.page_journal.proofs.Descriptors.{where_is}
+use Rattle.page_journal.proofs.PageKinds.{copy_page}
 
 module _ (pages : List Page) (page : ℕ) where
   abbrev bytes : List ℕ
   bytes = descriptor pages
 
-  in_copy : IsValid bytes → (copy : ℕ) → IsCopyOf pages copy page → copied_place bytes page ≡ 47 + copy
+  in_copy : IsValid bytes → (copy : ℕ) → IsCopyOf pages copy page → copied_place bytes page ≡ copy_page copy
   in_copy valid copy is = elim (where_is bytes 0 (slice_index bytes 0) page) [
     | inl found ↦ elim (cases_order found.0 copy) [
-      | inl same ↦ found.4 ∙ ap (λ n. 47 + n) same
+      | inl same ↦ found.4 ∙ ap copy_page same
       | inr apart ↦ elim apart [
         | inl before ↦ absurd (valid.distinct found.0 copy before is.0 (found.3 ∙ sym is.1))
         | inr behind ↦ absurd (valid.distinct copy found.0 behind (omega (arith, found.2)) (is.1 ∙ sym found.3))

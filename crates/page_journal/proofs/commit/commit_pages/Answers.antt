@@ -1,8 +1,9 @@
-use Rattle.std.proofs.Common.{◌≡◌, inl, inr}
+use Rattle.std.proofs.Common.{inl, inr}
 use Rattle.page_journal.specs.Phases.{IsStaged}
 use Rattle.page_journal.proofs.Causes.{where_ok}
 use Rattle.page_journal.proofs.Lists.{recorded_after}
 use Rattle.page_journal.proofs.Commits.{gate_is, first, recorded, second, third, fourth, ended}
+use Rattle.page_journal.proofs.PageKinds.{IsGate}
 use Rattle.page_journal.proofs.commit.commit_pages.Goals as goal
 
 pub returns-in_err-record-clause-moments : goal.returns-in_err-record-clause-moments
@@ -54,6 +55,6 @@ returns-clause-list g c told =
     let pool = c.args.pool.now in
     let f0 = c.args.flash.now in
     let was1 = recorded F g.met.F.Flash.only_now told pool r.some r.room r.homes r.distinct f0 (r.closed told) _ (e1.touches told) (e1.copies told) (e1.names told) in
-    let was2 = recorded_after (λ p. p ≡ 45) pool (F.pages f0) _ _ r.homes (λ p is. inl is) (e2.touches told).seen was1 in
+    let was2 = recorded_after IsGate pool (F.pages f0) _ _ r.homes (λ p is. inl is) (e2.touches told).seen was1 in
     let was3 = recorded_after (IsStaged pool) pool (F.pages f0) _ _ r.homes (λ p is. inr is) (e3.touches told).seen was2 in
     where_ok c.set_gate-2.result _ _ (λ w. ended F g.met.F.Flash.only_now told pool r.some r.room r.homes r.distinct f0 (r.closed told) _ _ was3 (e3.homes told) (e4.touches told) (gate_is (F.pages c.set_gate-2.new.flash) w.0 0 w.1 w.2)) (e4.written told)

@@ -4,6 +4,7 @@ use Rattle.flash_core.specs.Device.{SameBut}
 use Rattle.page_journal.specs.Phases.{IsInDescriptor}
 use Rattle.page_journal.proofs.Runs.{by_write, quiet, goes_on, wider}
 use Rattle.page_journal.proofs.Copies.{named_more, copy_unnamed}
+use Rattle.page_journal.proofs.PageKinds.{copy_page}
 use Rattle.page_journal.proofs.steps.copy_in_place.Goals as goal
 
 pub returns-in_err-write-clause-touches : goal.returns-in_err-write-clause-touches
@@ -38,7 +39,7 @@ loop-index-preserved g c =
           (by_write F g.met.F.Flash.only_now told c.from.result _ _ (e.torn told) (e.loss told) (e.time told))));
       homes = λ told.
           named_more index bytes c.read.new.into (F.pages c.args.flash.now) (F.pages c.loop-index.flash) (F.pages c.write.new.self) c.requires c.loop-index-test.true (i.homes told)
-          (sym ((i.touched told).seen (47 + index) (copy_unnamed bytes index c.requires)) ∙ r.written told)
+          (sym ((i.touched told).seen (copy_page index) (copy_unnamed bytes index c.requires)) ∙ r.written told)
           (subst (λ n. SameBut n (F.pages c.loop-index.flash) (F.pages c.write.new.self)) home (subst (λ (l : List Page). SameBut c.from.result l (F.pages c.write.new.self)) (r.torn told) (e.torn told)))
           (subst (λ n. slice_get (F.pages c.write.new.self) n ≡ Some c.read.new.into) home (e.written told));
       faults = e.cause.ok ∙ r.cause.ok ∙ i.faults;
