@@ -2,7 +2,7 @@ mod Runs
 mod Causes
 mod Copies
 mod Descriptors
-mod PageKinds
+pub mod PageKinds
 mod Lists
 mod PagesStand
 mod Commits

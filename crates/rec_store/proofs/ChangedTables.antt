@@ -15,6 +15,7 @@ use Rattle.flash_core.specs.declared.flash.Flash.{Ghosts as Flash}
 use Rattle.flash_core.specs.declared.page.Page.{Page}
 use Rattle.frame_pool.specs.Staged.{with_page}
 use Rattle.page_journal.specs.Store.{Store}
+use Rattle.page_journal.specs.Pages.{IsStorePage}
 use Rattle.rec_store.specs.EntrySlot.{HoldsEntry}
 use Rattle.rec_store.specs.FileSlot.{HoldsFile}
 use Rattle.rec_store.specs.Reopens.{current_page}
@@ -61,7 +62,7 @@ module _ {F : Type 0} (device : Flash F) (store after : Store F) (page : ℕ) (x
   here : now page ≡ x.bytes
   here = page_here store.staged (device.pages store.flash) page x
 
-  kept_with : (u : Tables) → page < 45 → AreRoomy u → (HoldsTables Third old t → HoldsTables Third now u) → IsKept device after u
+  kept_with : (u : Tables) → IsStorePage page → AreRoomy u → (HoldsTables Third old t → HoldsTables Third now u) → IsKept device after u
   kept_with u lt roomy held = kept_anew store after page x anew device u lt roomy kept.1 kept.2 (λ told. held (kept.3 told live))
 
   -- what is in other pages

@@ -11,6 +11,7 @@ use Rattle.rec_store.specs.Reopens.{KeepsPages, load_page, store_in, store_page}
 use Rattle.rec_store.specs.StoredTables.{HoldsTables}
 use Rattle.rec_store.specs.declared.store_layout.Layout.TheVariants.{Third}
 use Rattle.rec_store.proofs.Reopening.{keeps, none_loose, only_leaves, tables_same}
+use Rattle.page_journal.proofs.PageKinds.{gate_page}
 
 module _ (pages : List Page) (closed : is_open pages ≡ false) where
   -- each page is at its own place
@@ -26,7 +27,7 @@ module _ (pages : List Page) (closed : is_open pages ≡ false) where
 
 -- all pages are synced, the gate closed among them
 pub laid_out : (written pages : List Page) (gate : Page) (may_leave : List Page → Type 0) (t : Tables) (registry : Registry) → HoldsTables Third (store_in (slice_get written)) t
-    → slice_get written 45 ≡ Some gate → get_or gate.bytes 0 0 ≡ 0 → pages ≡ written → Only written may_leave → IsCardOf (load_page pages) t registry → KeepsPages pages may_leave registry
+    → slice_get written gate_page ≡ Some gate → get_or gate.bytes 0 0 ≡ 0 → pages ≡ written → Only written may_leave → IsCardOf (load_page pages) t registry → KeepsPages pages may_leave registry
 laid_out written pages gate may_leave t registry held there zero same only card =
     keeps_shut pages (subst (λ list. is_open list ≡ false) (sym same) closed) may_leave t registry (subst (λ list. HoldsTables Third (store_in (slice_get list)) t) (sym same) held) (subst (λ list. Only list may_leave) (sym same) only) card
   where

@@ -1,5 +1,5 @@
 -- Store pages and load pages hold at most one registry.
-use Rattle.std.proofs.Common.{◌≡◌, inl, inr, ℕ, suc, ◌<◌, ◌≤◌, List, [], ◌∷◌, length, Option, None, Some, refl, ap, sym, ◌∙◌, subst, arith}
+use Rattle.std.proofs.Common.{◌≡◌, inl, inr, ℕ, suc, ◌<◌, List, [], ◌∷◌, length, Option, None, Some, refl, ap, sym, ◌∙◌, subst, arith}
 use Rattle.std.specs.Prelude.{All, IfSome, MatchOption, nat_eq, take, map, filter, unwrap_or}
 use Rattle.std.specs.List.{IsDistinct, concat}
 use Rattle.std.specs.List.Sorted.{IsPermutation, IsStrictlySortedBy}
@@ -31,6 +31,7 @@ use Rattle.card_types.specs.declared.tables.Entry.{Entry}
 use Rattle.card_types.specs.declared.tables.KeyRec.{KeyRec}
 use Rattle.card_types.specs.declared.tables.LoadFile.{LoadFile}
 use Rattle.card_types.specs.declared.tables.Tables.{Tables}
+use Rattle.page_journal.specs.Pages.{IsLoadPage}
 use Rattle.rec_store.specs.EntrySlot.{HasThreeBytes}
 use Rattle.rec_store.specs.Reopens.{HoldsRegistry}
 use Rattle.rec_store.specs.KeySlot.{HoldsKey}
@@ -188,7 +189,7 @@ module _ (store load : ℕ → List ℕ) (t u : Tables) {a b : Layout} (first : 
     loaded_alike (Some x) None alike is = absurd alike
     loaded_alike (Some x) (Some y) alike is = record {
       size = omega (arith, is.size, alike.size);
-      pages = subst (All (λ page. (96 ≤ page) × (page < 608))) (sym alike.pages) is.pages;
+      pages = subst (All IsLoadPage) (sym alike.pages) is.pages;
     }
 
     -- where the one are a card's, so are the others

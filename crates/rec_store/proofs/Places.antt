@@ -6,6 +6,9 @@ use Rattle.std.proofs.lemmas.Bool.{cases_lt}
 use Rattle.std.proofs.lemmas.Nat.{div-mul-add, mod-mul-add}
 use Rattle.std.proofs.lemmas.Grind.{same_number_lists, common_steps}
 use Rattle.rec_store.specs.Places.{slot_at, slot_from}
+use Rattle.page_journal.specs.declared.pages.TheConstants.{STORE_PAGES}
+use Rattle.page_journal.specs.Pages.{IsStorePage}
+use Rattle.page_journal.proofs.PageKinds.{AreWithinStore}
 
 -- one slot ends before the next begins
 pub before : (i j size : ℕ) → i < j → i * size + size ≤ j * size
@@ -48,10 +51,10 @@ whole_page slot all each some lt whole = elim (cases_lt (slot / each) (all / eac
 ]
 
 -- the page of a slot is one of the store pages
-pub page_within : (first page all each : ℕ) → first * each + all ≤ 45 * each → page * each + each ≤ all → 0 < each → first + page < 45
-page_within first page all each room whole some = elim (cases_lt (first + page) 45) [
+pub page_within : (first page all each : ℕ) → AreWithinStore first all each → page * each + each ≤ all → 0 < each → IsStorePage (first + page)
+page_within first page all each room whole some = elim (cases_lt (first + page) STORE_PAGES) [
   | inl less ↦ less
-  | inr more ↦ absurd (omega (arith, at_most 45 (first + page) each more, distributed, room, whole, some))
+  | inr more ↦ absurd (omega (arith, at_most STORE_PAGES (first + page) each more, distributed, room, whole, some))
 ]
   where
     distributed : (first + page) * each ≡ first * each + page * each
@@ -64,11 +67,11 @@ some_each size whole = elim (cases_lt 0 (256 / size)) [
 ]
 
 -- the page of a slot is one of them
-pub staged_page : (first size all slot : ℕ) → 256 / size * size ≡ 256 → slot < all → all % (256 / size) ≡ 0 → first * (256 / size) + all ≤ 45 * (256 / size)
-    → (read from : ℕ) → read ≡ size → from ≡ slot → first + from / (256 / read) < 45
+pub staged_page : (first size all slot : ℕ) → 256 / size * size ≡ 256 → slot < all → all % (256 / size) ≡ 0 → AreWithinStore first all (256 / size)
+    → (read from : ℕ) → read ≡ size → from ≡ slot → IsStorePage (first + from / (256 / read))
 staged_page first size all slot whole lt of_pages room read from same is =
     let some = some_each size whole in
-    subst (λ n. first + n / (256 / read) < 45) (sym is) (subst (λ n. first + slot / (256 / n) < 45) (sym same)
+    subst (λ n. IsStorePage (first + n / (256 / read))) (sym is) (subst (λ n. IsStorePage (first + slot / (256 / n))) (sym same)
     (page_within first (slot / (256 / size)) all (256 / size) room (whole_page slot all (256 / size) some lt of_pages) some))
 
 -- what is so of all slots before a page, and of those in it

@@ -1,9 +1,8 @@
 -- What power loss may leave reopens as the registry that was there.
-use Rattle.std.proofs.Common.{◌≡◌, inl, inr, ℕ, ◌+◌, ◌/◌, ◌%◌, ◌<◌, ◌≤◌, ◌++◌, List, [], ◌∷◌, length, Option, Some, Result, Ok, Err, refl, ap, sym, subst, ◌∙◌, arith}
+use Rattle.std.proofs.Common.{◌≡◌, inl, inr, ℕ, ◌+◌, ◌/◌, ◌%◌, ◌<◌, ◌++◌, List, [], ◌∷◌, length, Option, Some, Result, Ok, Err, refl, ap, sym, subst, ◌∙◌, arith}
 use Rattle.std.specs.Prelude.{All, Contains, OnOk, map, replicate, take}
 use Rattle.std.specs.List.{concat}
 use Rattle.std.specs.List.Sorted.{IsPermutation}
-use Rattle.std.proofs.lemmas.Bool.{cases_lt}
 use Rattle.std.proofs.lemmas.Bool.Decides.{nat_tests}
 use Rattle.std.proofs.lemmas.List.{length-append, length-replicate, length-take-le, take-append-le, take_all}
 use Rattle.std.proofs.lemmas.List.Elements.{All-cons, All-contains, All-head, All-map, All-nil, All-tail}
@@ -29,10 +28,12 @@ use Rattle.rec_store.specs.StoredTables.{AreHeld, HoldsTables}
 use Rattle.rec_store.specs.Superblock.{IsSuperblock}
 use Rattle.rec_store.specs.declared.store_layout.Layout.{Layout}
 use Rattle.rec_store.proofs.OneRegistry.{same_pages}
+use Rattle.page_journal.specs.Pages.{IsStorePage}
+use Rattle.page_journal.proofs.PageKinds.{IsPastJournal, IsPastStore, journal_or_past}
 
 -- store pages that are the same hold the same tables
-module _ (old new : ℕ → List ℕ) (same : (n : ℕ) → n < 45 → new n ≡ old n) where
-  held_same : {T : Type 0} (holds : List ℕ → Option T → Type 0) (first size count : ℕ) (things : List (Option T)) → ((i : ℕ) → i < count → first + i / (256 / size) < 45) → AreHeld holds (slot_from old first size) count things → AreHeld holds (slot_from new first size) count things
+module _ (old new : ℕ → List ℕ) (same : (n : ℕ) → IsStorePage n → new n ≡ old n) where
+  held_same : {T : Type 0} (holds : List ℕ → Option T → Type 0) (first size count : ℕ) (things : List (Option T)) → ((i : ℕ) → i < count → IsStorePage (first + i / (256 / size))) → AreHeld holds (slot_from old first size) count things → AreHeld holds (slot_from new first size) count things
   held_same holds first size count things within was i lt =
       subst (λ bytes. holds bytes (held things i)) (sym (ap (λ page. slot_at page size (i % (256 / size))) (same (first + i / (256 / size)) (within i lt)))) (was i lt)
 
@@ -83,26 +84,26 @@ module _ (old new : ℕ → List ℕ) (t : Tables) (same : (file : LoadFile) →
   }
 
 -- a load page of a list
-pub load_at : (list : ℕ → Option Page) (n : ℕ) → 96 ≤ n → load_in list n ≡ take 256 (bytes_of (list n) ++ replicate 256 0)
+pub load_at : (list : ℕ → Option Page) (n : ℕ) → IsPastJournal n → load_in list n ≡ take 256 (bytes_of (list n) ++ replicate 256 0)
 load_at list n le = grind (arith, nat_tests)
 
 pub has_pages : (list : ℕ → Option Page) → HasPages (load_in list)
-has_pages list n = elim (cases_lt n 96) [
+has_pages list n = elim (journal_or_past n) [
   | inl low ↦ grind (arith, nat_tests)
   | inr high ↦
       (let whole : length (take 256 (bytes_of (list n) ++ replicate 256 0)) ≡ 256 = length-take-le 256 _ (omega (arith, length-append (bytes_of (list n)) (replicate 256 0), length-replicate {A = ℕ} 256 0)) in
       ap length (load_at list n high) ∙ whole)
 ]
 
-pub load_same : (a b : ℕ → Option Page) (n : ℕ) → (96 ≤ n → a n ≡ b n) → load_in a n ≡ load_in b n
-load_same a b n same = elim (cases_lt n 96) [
+pub load_same : (a b : ℕ → Option Page) (n : ℕ) → (IsPastJournal n → a n ≡ b n) → load_in a n ≡ load_in b n
+load_same a b n same = elim (journal_or_past n) [
   | inl low ↦ grind (arith, nat_tests)
   | inr high ↦ load_at a n high ∙ ap (λ page. take 256 (bytes_of page ++ replicate 256 0)) (same high) ∙ sym (load_at b n high)
 ]
 
 -- what power loss leaves of a list of pages that hold tables
 module _ (list : ℕ → Option Page) (loose : List ℕ) (outcome : List Page) (t : Tables) (leaves : Leaves list loose outcome) (free : (n : ℕ) → Contains loose n → IsFree t n) (registry : Registry) (card : IsCardOf (load_in list) t registry) where
-  left_store : (n : ℕ) → n < 45 → store_page outcome n ≡ store_in list n
+  left_store : (n : ℕ) → IsStorePage n → store_page outcome n ≡ store_in list n
   left_store n lt = ap bytes_of (leaves.store n lt)
 
   left_load : (file : LoadFile) → Contains (used t.files.items) file → (n : ℕ) → Contains (pages_named file) n → load_page outcome n ≡ load_in list n
@@ -139,14 +140,14 @@ keeps_on old new may_leave later registry same none was = subst (λ pages. Keeps
 })
 
 -- the load page that was read
-pub load_read : (list : ℕ → Option Page) (n : ℕ) (page : Page) → 96 ≤ n → list n ≡ Some page → length page.bytes ≡ 256 → page.bytes ≡ load_in list n
+pub load_read : (list : ℕ → Option Page) (n : ℕ) (page : Page) → IsPastJournal n → list n ≡ Some page → length page.bytes ≡ 256 → page.bytes ≡ load_in list n
 load_read list n page high is whole = sym (load_at list n high ∙ ap (λ one. take 256 (bytes_of one ++ replicate 256 0)) is ∙ first)
   where
     first : take 256 (page.bytes ++ replicate 256 0) ≡ page.bytes
     first = take-append-le 256 page.bytes (replicate 256 0) (omega (arith, whole)) ∙ take_all 256 page.bytes (omega (arith, whole))
 
 -- no load page is staged
-pub load_current : (pool : List (ℕ × Page)) (pages : List Page) (n : ℕ) → NoLoadPage pool → 45 ≤ n → current pool pages n ≡ stored pages n
+pub load_current : (pool : List (ℕ × Page)) (pages : List Page) (n : ℕ) → NoLoadPage pool → IsPastStore n → current pool pages n ≡ stored pages n
 load_current pool pages n none le = ap (λ one. first_of one (stored pages n)) (none n le)
 
 pub on_ok : {A B : Type 0} (result : Result A B) (P Q : Type 0) → (P → Q) → OnOk result P → OnOk result Q
@@ -172,7 +173,7 @@ pub spare_of_held : {F : Type 0} (device : Flash F) (flash : F) (t : Tables) →
 spare_of_held device flash t held page free of u other = free_of_held (store_page (device.pages flash)) t u page held other free
 
 -- what was spare is so where the store pages are the same
-pub spare_same : {F : Type 0} (device : Flash F) (old new : F) → ((n : ℕ) → n < 45 → store_page (device.pages new) n ≡ store_page (device.pages old) n) → (page : ℕ) → IsSpare device old page → IsSpare device new page
+pub spare_same : {F : Type 0} (device : Flash F) (old new : F) → ((n : ℕ) → IsStorePage n → store_page (device.pages new) n ≡ store_page (device.pages old) n) → (page : ℕ) → IsSpare device old page → IsSpare device new page
 spare_same device old new same page spare of t held =
     spare of t (tables_same (store_page (device.pages new)) (store_page (device.pages old)) (λ n lt. sym (same n lt)) t held)
 

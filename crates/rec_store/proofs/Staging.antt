@@ -19,6 +19,7 @@ use Rattle.rec_store.specs.Places.{slot_at, slot_from}
 use Rattle.rec_store.specs.Room.{HasFrame, with_staged}
 use Rattle.rec_store.specs.StoredTables.{AreHeld, AreRoomy, HoldsPage, HoldsTables}
 use Rattle.rec_store.specs.declared.store_layout.Layout.TheVariants.{Third}
+use Rattle.page_journal.specs.Pages.{IsStorePage}
 
 abbrev Pages : Type 0
 Pages = List (ℕ × Page)
@@ -70,7 +71,7 @@ staged_apart (first ∷ rest) page x n apart = elim (cases_eq first.0 page) [
       ])
 ]
 
-pub none_loaded : (pool : Pages) (page : ℕ) (x : Page) → page < 45 → NoLoadPage pool → NoLoadPage (with_page pool page x)
+pub none_loaded : (pool : Pages) (page : ℕ) (x : Page) → IsStorePage page → NoLoadPage pool → NoLoadPage (with_page pool page x)
 none_loaded pool page x lt none n le = staged_apart pool page x n (λ is. omega (arith, is, lt, le)) ∙ none n le
 
 pub none_staged : (pool : Pages) → numbers pool ≡ [] → pool ≡ []
@@ -132,6 +133,6 @@ module _ {F : Type 0} (store new : Store F) (page : ℕ) (x : Page) (anew : new 
   pub numbers_anew : (shown : List ℕ) → numbers store.staged ≡ shown → numbers new.staged ≡ with_staged shown page
   numbers_anew shown is = ap (λ (s : Store F). numbers s.staged) anew ∙ staged_numbers store.staged page x ∙ ap (λ staged. with_staged staged page) is
 
-  pub kept_anew : (device : Flash F) (t : Tables) → page < 45 → AreRoomy t → store.settled ≡ true → NoLoadPage store.staged
+  pub kept_anew : (device : Flash F) (t : Tables) → IsStorePage page → AreRoomy t → store.settled ≡ true → NoLoadPage store.staged
       → (device.tells → HoldsTables Third (current_page (with_page store.staged page x) (device.pages store.flash)) t) → IsKept device new t
   kept_anew device t lt roomy settled none held = subst (λ (s : Store F). IsKept device s t) (sym anew) (roomy, settled, none_loaded store.staged page x lt none, λ told live. held told)

@@ -1,16 +1,18 @@
-use Rattle.std.proofs.Common.{◌≡◌, ◌≢◌, ◌⊎◌, inl, inr, ℕ, ◌+◌, ◌*◌, ◌/◌, ◌%◌, ◌<◌, ◌≤◌, ap, ◌∙◌, arith}
+use Rattle.std.proofs.Common.{◌≡◌, ◌≢◌, ◌⊎◌, inl, inr, ℕ, ◌+◌, ◌*◌, ◌/◌, ◌%◌, ◌<◌, ap, ◌∙◌, arith}
 use Rattle.rec_store.proofs.Places.{page_of_all, page_within, some_each}
 use Rattle.rec_store.proofs.Written.{held_more}
 use Rattle.rec_store.specs.Slot.{Holds}
+use Rattle.page_journal.specs.Pages.{IsStorePage}
+use Rattle.page_journal.proofs.PageKinds.{AreWithinStore, IsPastStore}
 use Rattle.rec_store.proofs.slots.write_slots.Goals as goal
 
 -- a page of another kind is not the one that is written
-another : (page first number at : ℕ) → at ≡ first + number → first + number < 45 → (page < first) ⊎ (45 ≤ page) → page ≢ at
+another : (page first number at : ℕ) → at ≡ first + number → IsStorePage (first + number) → (page < first) ⊎ IsPastStore page → page ≢ at
 another page first number at is lt (inl less) same = omega (arith, is, less, same)
 another page first number at is lt (inr more) same = omega (arith, is, lt, more, same)
 
 -- the page that is written is one of the store pages
-within : (first size read number count : ℕ) → read ≡ size → 256 / size * size ≡ 256 → count % (256 / size) ≡ 0 → first * (256 / size) + count ≤ 45 * (256 / size) → number < count / (256 / read) → first + number < 45
+within : (first size read number count : ℕ) → read ≡ size → 256 / size * size ≡ 256 → count % (256 / size) ≡ 0 → AreWithinStore first count (256 / size) → number < count / (256 / read) → IsStorePage (first + number)
 within first size read number count same whole even range lt =
     page_within first number count (256 / size) range (page_of_all size read number count same even lt) (some_each size whole)
 

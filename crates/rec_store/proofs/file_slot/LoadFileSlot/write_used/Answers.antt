@@ -1,15 +1,16 @@
-use Rattle.std.proofs.Common.{◌≡◌, ◌<◌, ◌≤◌, ◌+◌, ◌/◌, ℕ, ◌∙◌, ap, get_or, length, length-set, subst, take, arith}
+use Rattle.std.proofs.Common.{◌≡◌, ◌<◌, ◌+◌, ◌/◌, ℕ, ◌∙◌, ap, get_or, length, length-set, subst, take, arith}
 use Rattle.std.proofs.lemmas.Grind.{common_steps}
 use Rattle.rec_store.proofs.Kept.{bytes_kept}
 use Rattle.std.specs.Prelude.{All}
 use Rattle.rec_store.specs.Bytes.{HasBytesAt}
+use Rattle.page_journal.specs.Pages.{IsLoadPage}
 use Rattle.rec_store.proofs.file_slot.LoadFileSlot.write_used.Goals as goal
 
 pub write_pages-requires-clause-range : goal.write_pages-requires-clause-range
 write_pages-requires-clause-range c =
     let file = c.args.self.now in
     let is : (file.len + 255) / 256 ≡ c.div_ceil.result = omega (arith, c.div_ceil.ensures, c.from.ensures) in
-    subst (λ (n : ℕ). All (λ page. (96 ≤ page) × (page < 608)) (take n file.pages)) is c.requires.roomy.pages
+    subst (λ (n : ℕ). All IsLoadPage (take n file.pages)) is c.requires.roomy.pages
 
 pub returns : goal.returns
 returns c =
