@@ -1,7 +1,6 @@
 pub mod Acting
 pub mod Admitting
 pub mod Answered
-pub mod Becoming
 pub mod CardLifeSet
 pub mod Cards
 pub mod Carrying

@@ -2,7 +2,7 @@
 use Rattle.std.proofs.Common.{◌≡◌, ◌↔◌, ℕ, inl, inr, Bool, List, [], None, Option, Some, Result, Ok, Err, refl, sym, subst}
 use Rattle.std.specs.Result.{IsErrAnd}
 use Rattle.apdu_core.specs.declared.reply.Status.{Status}
-use Rattle.card_core.specs.Prelude.{ActsIn, Admitted, AnswersFor, AreCards, BecomesAsAsked, CommandAsks, CommandForm, Confirms, FindsConfirmer, IsAnswered, IsFirst, IsManaged, IsOfForm, JudgedFirst, JudgedForm, Judges, KeepsReceipts, ManagedForm, Manages, Registry, Represents, TakesCommand, command_form, leaves, rules_before_form}
+use Rattle.card_core.specs.Prelude.{ActsIn, Admitted, AnswersFor, AreCards, BecomesAsAsked, CommandAsks, CommandForm, Confirms, FindsConfirmer, IsAnswered, IsFirst, IsManaged, IsOfForm, JudgedForm, Judges, KeepsReceipts, ManagedForm, Manages, Registry, Represents, TakesCommand, command_form, leaves, rules_before_form}
 use Rattle.card_types.specs.declared.tables.Tables.{Tables}
 use Rattle.policy_machine.proofs.Judging.{IsListed, does_so, judged}
 use Rattle.policy_machine.proofs.ManagedLawful.{replied}
@@ -46,12 +46,12 @@ confirmer_for same tables admitted receipter (inl (holds, found)) = inl (same.1 
 confirmer_for same tables admitted receipter (inr (lacks, none)) = inr (λ holds. lacks (same.0 holds), none)
 
 -- a command that may be confirmed has changed the registry, and is answered by a receipt or by 00
-pub confirmed_managed : (form : ManagedForm) (rules : JudgedForm) (admitted : Admitted) → (receipted : Bool) → IsOfForm form rules receipted admitted → JudgedFirst rules admitted None
+pub confirmed_managed : (form : ManagedForm) (rules : JudgedForm) (admitted : Admitted) → (receipted : Bool) → IsOfForm form rules receipted admitted → Judges admitted None
     → (page : ℕ → List ℕ) (before mid after : Tables) (domain : ℕ) → AreCards before → ActsIn page before domain admitted
     → (receipter : Option ℕ) → FindsConfirmer (rules.delegation.is_delegated admitted) before admitted receipter → KeepsReceipts before mid receipter
     → (aids : List (List ℕ)) → BecomesAsAsked form admitted page mid aids → (body : List ℕ) → Confirms mid after receipter aids body
     → (status : Status) → status.0 ≡ 0x9000 → IsManaged admitted page after body status
-confirmed_managed form rules admitted receipted is first page before mid after domain cards acts receipter finds keeps aids becomes body confirms status word =
+confirmed_managed form rules admitted receipted is judges page before mid after domain cards acts receipter finds keeps aids becomes body confirms status word =
     let delegated = form.judged.delegation.is_delegated admitted in
     let named = form.judged.delegation.about admitted becomes.asked in
     let confirmer = confirmer_for is.delegated before admitted receipter finds in
@@ -66,7 +66,7 @@ confirmed_managed form rules admitted receipted is first page before mid after d
     let left = leaves admitted told.0 body in
     let answered = answered_so delegated before admitted receipter confirmer named becomes.changed left told.2 in
     record {
-      judges = is.judges None first;
+      judges = judges;
       done = left;
       does = is.does left (record {
         asked = becomes.asked;

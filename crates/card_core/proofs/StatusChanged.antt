@@ -14,7 +14,6 @@ use Rattle.card_types.specs.declared.tables.Tables.{Tables}
 use Rattle.domain_tree.proofs.AboveNamed.{above_in_slots, above_named}
 use Rattle.policy_rules.specs.declared.entry_status.StatusChange.{StatusChange}
 use Rattle.policy_rules.specs.declared.entry_status.StatusChange.TheVariants.{One, Tree}
-use Rattle.card_core.proofs.Becoming.{named_there}
 use Rattle.card_core.proofs.Cards.{in_order}
 use Rattle.card_core.proofs.EntryCards.{changing_aids, entries_cards, entry_cards}
 
@@ -106,7 +105,11 @@ changed_cards before after (One slot life) made keeps each cards =
 changed_cards before after (Tree domain locked) made keeps each cards =
     entries_cards before after made.slots made.files made.keys made.objects keeps each cards
 
--- a slot with an AID is used
+-- what has an AID is there, and a slot with one is used
+pub named_there : {T : Type 0} (name : T → List ℕ) (thing : Option T) (aid : List ℕ) → option_map name thing ≡ Some aid → IsSome thing
+named_there name None aid is = cc
+named_there name (Some thing) aid is = refl
+
 pub used_by_name : (slots : List (Option Entry)) (slot : ℕ) (aid : List ℕ) → option_map (λ (entry : Entry). entry.aid) (held slots slot) ≡ Some aid → IsSome (held slots slot)
 used_by_name slots slot aid = named_there (λ (entry : Entry). entry.aid) (held slots slot) aid
 

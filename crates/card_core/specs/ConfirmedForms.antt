@@ -1,32 +1,27 @@
 -- For the code inside. Forms of card content management whose commands a receipt may confirm: what a command of such a form is, and what
 -- it makes of the registry.
-use Rattle.std.specs.Prelude.{◌≡◌, ◌↔◌, ℕ, Bool, true, List, [], Option, refl}
+use Rattle.std.specs.Prelude.{◌≡◌, ◌↔◌, ℕ, Bool, true, List, refl}
 use Rattle.card_types.specs.Registry.{Registry}
 use Rattle.card_types.specs.Represents.{Represents}
 use Rattle.card_types.specs.declared.tables.Tables.{Tables}
-use Rattle.policy_machine.proofs.Judging.{IsListed, does_so, judged}
+use Rattle.policy_machine.proofs.Judging.{IsListed, does_so}
 use Rattle.policy_machine.specs.Admission.{Admitted}
-use Rattle.policy_machine.specs.Commands.{HasEffect, Judges, TakesCommand}
+use Rattle.policy_machine.specs.Commands.{HasEffect, TakesCommand}
 use Rattle.policy_machine.specs.Delegation.{unconfirmed}
-use Rattle.policy_machine.specs.ExternalAuthenticate.{rules_before_form}
-use Rattle.policy_machine.specs.ManagedForm.{CommandAsks, JudgedFirst, JudgedForm, ManagedEffect, ManagedForm, command_form}
+use Rattle.policy_machine.specs.ManagedForm.{CommandAsks, JudgedForm, ManagedEffect, ManagedForm, command_form}
 use Rattle.policy_machine.specs.State.{Effect}
-use Rattle.policy_machine.specs.declared.rule.Rule.{Rule}
 
--- The command is judged by these rules and does what the form says. It is delegated as both say, may have a receipt, and is answered by
--- 00 where nobody confirms it.
+-- The command does what the form says. It is delegated as both say, may have a receipt, and is answered by 00 where nobody confirms it.
 pub record IsOfForm (form : ManagedForm) (rules : JudgedForm) (receipted : Bool) (admitted : Admitted) : Type 0 where
-  pub judges : (found : Option Rule) → JudgedFirst rules admitted found → Judges admitted found
   pub does : (done : Effect) → ManagedEffect form admitted done → HasEffect admitted done
   pub delegated : form.judged.delegation.is_delegated admitted ↔ rules.delegation.is_delegated admitted
   pub receipted_is : receipted ≡ true
   pub reply : (asked : form.judged.Asked) → form.reply asked ≡ unconfirmed
 
--- a command of a form that is listed, with no rules before its own
-pub of_form : (form : ManagedForm) → IsListed (command_form form) → rules_before_form form.judged.instruction ≡ [] → ((asked : form.judged.Asked) → form.reply asked ≡ unconfirmed)
+-- a command of a form that is listed
+pub of_form : (form : ManagedForm) → IsListed (command_form form) → ((asked : form.judged.Asked) → form.reply asked ≡ unconfirmed)
     → (admitted : Admitted) → TakesCommand (command_form form) admitted.command → IsOfForm form form.judged true admitted
-of_form form listed none reply admitted takes = record {
-  judges = judged (command_form form) listed admitted takes none;
+of_form form listed reply admitted takes = record {
   does = does_so (command_form form) listed admitted takes;
   delegated = (λ is. is, λ is. is);
   receipted_is = refl;

@@ -1,27 +1,19 @@
 //! A request of card content management that a receipt may confirm: it is judged, the registry changes, and the command is answered
 //! (GlobalPlatform Card Specification 2.3.1, 9.1.3 and 9.3 to 9.5).
 
-ghost use Rattle.std.specs.Prelude.{◌≡◌, ◌≤◌, ℕ, List, [], length, true};
-ghost use Rattle.card_core.specs.Prelude.{Admitted, Apdu, AreCards, BecomesAsAsked, ForActing, HasRoomFor, IsChanging, IsOfForm, IsRequestOf, IsWellFormed, JudgedFirst, KeepsConfirmer, KeepsFree, KeepsSelected, ManagedForm, RepresentsState, aids_in, entry_pages, is_domain_in};
-ghost use Rattle.policy_machine.specs.declared.channels.TheConstants.{CHANNELS};
+ghost use Rattle.std.specs.Prelude.{◌≡◌, [], true};
+ghost use Rattle.card_core.specs.Prelude.{Admitted, AreCards, BecomesAsAsked, ForActing, HasRoomFor, IsChanging, IsOfForm, IsRequestOf, IsWellFormed, JudgedFirst, KeepsConfirmer, KeepsFree, KeepsSelected, ManagedForm, aids_in, entry_pages, is_domain_in};
 
 use crate::confirm::{Aids, confirm};
 use crate::managed_request::{Acting, ManagedRequest};
 use crate::reply::{Answer, Reply};
 use apdu_core::Status;
 use flash_core::Flash;
-use policy_rules::{JudgedRequest, judge_request};
+use policy_rules::{FormRequest, judge_request};
 use rec_store::Records;
 
 /// A request of card content management that a receipt may confirm.
-pub trait ConfirmedRequest: JudgedRequest {
-    ghost use Rattle.card_types.specs.declared.tables.Tables.{Tables};
-    ghost use Rattle.policy_rules.specs.declared.request.Request.{Request};
-    ghost use Rattle.policy_slots.specs.declared.live.Live.{Live};
-
-    /// The request of the command.
-    ghost request: { Self → Request };
-
+pub trait ConfirmedRequest: FormRequest {
     /// The form of its commands.
     ghost managed: { ManagedForm };
 
@@ -36,11 +28,11 @@ pub trait ConfirmedRequest: JudgedRequest {
         requires clean { records.old.staged ≡ [] }
         requires cards { AreCards records.old.tables }
         requires domain { is_domain_in records.old.tables.entries.items acting.now.domain ≡ true }
-        requires formed { IsWellFormed (request self.now) }
+        requires formed { IsWellFormed (Self.request self.now) }
         requires found { Self.finds self.now records.old.tables acting.now.live.now acting.now.domain found }
         requires passed { ForActing records.old.tables acting.now.domain (λ page admitted. Self.told page records.old.tables acting.now.live.now admitted
             → Self.reads self.now admitted.command → JudgedFirst Self.form admitted None) }
-        ensures becomes { ForActing records.old.tables acting.now.domain (λ page admitted. IsRequestOf (request self.now) admitted.command
+        ensures becomes { ForActing records.old.tables acting.now.domain (λ page admitted. IsRequestOf (Self.request self.now) admitted.command
             → BecomesAsAsked managed admitted page records.new.tables (aids_in result)) }
         ensures confirmer { ForActing records.old.tables acting.now.domain (λ page admitted. KeepsConfirmer records.old.tables records.new.tables admitted) }
         ensures selected { KeepsSelected acting.now.live.now records.old.tables.entries.items records.new.tables.entries.items }
@@ -49,19 +41,11 @@ pub trait ConfirmedRequest: JudgedRequest {
         ensures same { (records.new.flash ≡ records.old.flash) × (records.new.live ≡ true) }
         ensures room { HasRoomFor entry_pages records.new.staged };
 
-    /// A command with the request is read as its form is, and what a token signs of it is within its data field.
-    ghost read: { (these : Self) (command : Apdu) → IsRequestOf (request these) command
-        → Self.reads these command × (length (Self.brought these).before.now ≤ length command.body) };
-
-    /// The rules look at no more of the state than what is kept of it.
-    ghost shown: { (page : ℕ → List ℕ) (tables : Tables) (live : Live) (admitted : Admitted) → RepresentsState page tables live admitted.at
-        → length admitted.at.volatile.channels ≡ CHANNELS → Self.told page tables live admitted };
-
     /// Its commands are of the form, and may have a receipt.
-    ghost formed: { (these : Self) (admitted : Admitted) → IsRequestOf (request these) admitted.command → IsOfForm managed Self.form Self.receipted admitted };
+    ghost formed: { (these : Self) (admitted : Admitted) → IsRequestOf (Self.request these) admitted.command → IsOfForm managed Self.form Self.receipted admitted };
 
     /// Its instruction is one that changes the registry.
-    ghost changes: { (these : Self) → IsChanging (request these) };
+    ghost changes: { (these : Self) → IsChanging (Self.request these) };
 }
 
 impl<F: Flash, M: ConfirmedRequest> ManagedRequest<F> for M {

@@ -62,8 +62,6 @@ fn remove<F: Flash>(records: &mut Records<F>, thing: Found, related: bool)
 }
 
 impl ConfirmedRequest for DeletionRequest<'_> {
-    ghost request = { λ request. DeleteObject request };
-
     ghost managed = { managed_delete_object };
 
     fn change<F: Flash>(
@@ -76,11 +74,7 @@ impl ConfirmedRequest for DeletionRequest<'_> {
         Aids::new(self.aid, None, None)
     }
 
-    ghost read = { λ these command is. (is.means, is.means.short) };
-
-    ghost shown = { λ page tables live admitted says channels. (says, channels) };
-
-    ghost formed = { λ these admitted is. of_form managed_delete_object (λ held here. inr (inl here)) refl (λ asked. refl) admitted is.form };
+    ghost formed = { λ these admitted is. of_form managed_delete_object (λ held here. inr (inl here)) (λ asked. refl) admitted is.form };
 
     ghost changes = { λ these. refl };
 }

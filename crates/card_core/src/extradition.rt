@@ -2,7 +2,6 @@
 
 ghost use Rattle.std.proofs.Common.{inl, inr, refl};
 ghost use Rattle.card_core.specs.Prelude.{managed_extradition, of_form};
-ghost use Rattle.policy_rules.specs.declared.request.Request.TheVariants.{Extradite};
 
 use crate::confirm::Aids;
 use crate::confirmed_request::ConfirmedRequest;
@@ -14,8 +13,6 @@ use rec_store::Records;
 use registry::move_to;
 
 impl ConfirmedRequest for ExtraditionRequest<'_> {
-    ghost request = { λ request. Extradite request };
-
     ghost managed = { managed_extradition };
 
     fn change<F: Flash>(
@@ -29,11 +26,7 @@ impl ConfirmedRequest for ExtraditionRequest<'_> {
         Aids::new(from, Some(self.aid), Some(self.to))
     }
 
-    ghost read = { λ these command is. (is.means, is.means.short) };
-
-    ghost shown = { λ page tables live admitted says channels. tt };
-
-    ghost formed = { λ these admitted is. of_form managed_extradition (λ holds found. inr (inr (inl found))) refl (λ asked. refl) admitted is.form };
+    ghost formed = { λ these admitted is. of_form managed_extradition (λ holds found. inr (inr (inl found))) (λ asked. refl) admitted is.form };
 
     ghost changes = { λ these. refl };
 }

@@ -2,7 +2,6 @@
 
 ghost use Rattle.std.proofs.Common.{◌≡◌, inl, refl};
 ghost use Rattle.card_core.specs.Prelude.{managed_install, of_form, slot_made};
-ghost use Rattle.policy_rules.specs.declared.request.Request.TheVariants.{Install};
 
 use crate::confirm::Aids;
 use crate::confirmed_request::ConfirmedRequest;
@@ -37,8 +36,6 @@ fn made(request: &InstallRequest<'_>, domain: u8, file: u8) -> Entry
 }
 
 impl ConfirmedRequest for InstallRequest<'_> {
-    ghost request = { λ request. Install request };
-
     ghost managed = { managed_install };
 
     fn change<F: Flash>(&self, records: &mut Records<F>, acting: &Acting<'_>, file: u8) -> Aids {
@@ -46,11 +43,7 @@ impl ConfirmedRequest for InstallRequest<'_> {
         Aids::new(self.file, Some(self.aid), None)
     }
 
-    ghost read = { λ these command is. (is.means, is.means.short) };
-
-    ghost shown = { λ page tables live admitted says channels. says.load };
-
-    ghost formed = { λ these admitted is. of_form managed_install (λ holds found. inl found) refl (λ asked. refl) admitted is.form };
+    ghost formed = { λ these admitted is. of_form managed_install (λ holds found. inl found) (λ asked. refl) admitted is.form };
 
     ghost changes = { λ these. refl };
 }

@@ -3,7 +3,6 @@
 
 ghost use Rattle.std.proofs.Common.{inl, inr, refl};
 ghost use Rattle.card_core.specs.Prelude.{managed_selectable, of_form};
-ghost use Rattle.policy_rules.specs.declared.request.Request.TheVariants.{MakeSelectable};
 
 use crate::confirm::Aids;
 use crate::confirmed_request::ConfirmedRequest;
@@ -21,8 +20,6 @@ const SELECTABLE: LifeMark = LifeMark {
 };
 
 impl ConfirmedRequest for SelectableRequest<'_> {
-    ghost request = { λ request. MakeSelectable request };
-
     ghost managed = { managed_selectable };
 
     fn change<F: Flash>(&self, records: &mut Records<F>, _acting: &Acting<'_>, slot: u8) -> Aids {
@@ -30,11 +27,7 @@ impl ConfirmedRequest for SelectableRequest<'_> {
         Aids::new(self.aid, None, None)
     }
 
-    ghost read = { λ these command is. (is.means, is.means.short) };
-
-    ghost shown = { λ page tables live admitted says channels. tt };
-
-    ghost formed = { λ these admitted is. of_form managed_selectable (λ holds found. inr (inl found)) refl (λ asked. refl) admitted is.form };
+    ghost formed = { λ these admitted is. of_form managed_selectable (λ holds found. inr (inl found)) (λ asked. refl) admitted is.form };
 
     ghost changes = { λ these. refl };
 }

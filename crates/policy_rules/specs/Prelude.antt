@@ -16,6 +16,7 @@ pub use Rattle.card_types.specs.Well.{IsDomainNamed, IsKeyLength, IsObject, IsRo
 pub use Rattle.content_rules.specs.LoadFound.{IsForLoad}
 pub use Rattle.domain_tree.specs.Above.{Above, IsAboveIn}
 pub use Rattle.key_rules.specs.PutFails.{NoneHolds, PutFails}
+pub use Rattle.policy_machine.proofs.Judging.{judged}
 pub use Rattle.policy_machine.specs.Admission.{Admitted}
 pub use Rattle.policy_machine.specs.CardStatus.{CardStatusParameters, IsCardStep, IsLocking, IsPreparing, IsTerminating, SettingCardFails, card_lock, card_terminate, managed_card_status}
 pub use Rattle.policy_machine.specs.Charge.{IsAtOrAbove, is_privileged}
@@ -38,7 +39,7 @@ pub use Rattle.policy_machine.specs.Load.{LoadFails, front_rules}
 pub use Rattle.policy_machine.specs.MakeSelectable.{managed_selectable}
 pub use Rattle.policy_machine.specs.Malformed.{IsMalformed, IsRefusedBy}
 pub use Rattle.policy_machine.specs.ManageChannel.{is_closed, lowest_closed}
-pub use Rattle.policy_machine.specs.ManagedForm.{OwnFirst, command_form}
+pub use Rattle.policy_machine.specs.ManagedForm.{JudgedFirst, OwnFirst, command_form}
 pub use Rattle.policy_machine.specs.Management.{ManagementFails, acting}
 pub use Rattle.policy_machine.specs.PutKey.{HasKeyFields, IsNewVersion, KeysAsked, PutKeyFails, PutKeyParameters, PuttingKeyFails, SaysChecks, SentKey, TellsChecks, key_count, keys_left, managed_put_key, own_keys_left, sealed_size}
 pub use Rattle.policy_machine.specs.PutKeyRules.{key_rules, version_rules}
@@ -53,5 +54,5 @@ pub use Rattle.policy_rules.specs.Requests.{Decodes, IsJudgedBehind, IsMeant, Is
 pub use Rattle.policy_rules.specs.SetStatusRequests.{IsCardStatusOf, IsChangeFor, IsEntryStatusOf, IsEntryStatusRequest, IsOther, IsSlotStep, IsStepBy, MaySet, MayStep, slot_of}
 pub use Rattle.policy_slots.specs.KeyOrder.{UsesSetOfKey, follows, holds_counter_but, keeps_counter_of}
 pub use Rattle.policy_slots.specs.ObjectsHeld.{has_object_in, is_tagged_in}
-pub use Rattle.policy_slots.specs.StateShown.{ActsAsBefore, ActsIn, IsSelectedIn, RepresentsState, TellsCard, place_of}
+pub use Rattle.policy_slots.specs.StateShown.{ActsAsBefore, ActsIn, ForActingLive, IsSelectedIn, RepresentsState, TellsCard, place_of}
 pub use Rattle.scp03_card.specs.Offer.{counter_bytes}

@@ -5,13 +5,19 @@
 mod card_status;
 mod delete;
 mod delete_key;
+mod delete_object;
 mod entry_status;
 mod external_authenticate;
+mod extradition;
+mod form_request;
 mod get_data;
 mod get_status;
 mod initialize_update;
 mod install;
+mod install_application;
+mod install_load;
 mod load;
+mod make_selectable;
 mod manage_channel;
 mod own_rules;
 mod put_key;
@@ -27,6 +33,7 @@ pub use content_rules::{
 };
 pub use delete_key::judge_delete_key;
 pub use entry_status::{EntryStatusRequest, StatusChange, judge_entry_status};
+pub use form_request::{FormRequest, judge_form};
 pub use get_data::{Datum, judge_get_data};
 pub use get_status::{ListRequest, judge_status, next_shown};
 pub use initialize_update::{OfferedSet, judge_initialize_update};

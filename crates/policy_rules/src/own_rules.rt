@@ -7,6 +7,7 @@ ghost use Rattle.policy_machine.specs.declared.instruction.TheConstants.{EXTERNA
 use crate::card_status::judge_card_status;
 use crate::delete_key::judge_delete_key;
 use crate::entry_status::judge_entry_status;
+use crate::form_request::judge_form;
 use crate::get_data::judge_get_data;
 use crate::get_status::judge_status;
 use crate::initialize_update::judge_initialize_update;
@@ -18,7 +19,7 @@ use crate::store_data::judge_store_data;
 use card_types::Tables;
 use content_rules::judge_load;
 use policy_machine::{CHANNELS, Rule};
-use policy_slots::{Live, judge_request};
+use policy_slots::Live;
 
 /// The first of a well-formed command's own rules that fails, or none. Whether the check values of PUT KEY fit is told by the
 /// caller, who has the Key-DEK; of other commands it is not read.
@@ -77,11 +78,11 @@ pub fn judge(
             version,
             identifier,
         } => judge_delete_key(tables, domain, *version, *identifier).err(),
-        Request::DeleteObject(request) => judge_request(tables, live, domain, request).err(),
-        Request::Install(request) => judge_request(tables, live, domain, request).err(),
-        Request::MakeSelectable(request) => judge_request(tables, live, domain, request).err(),
-        Request::Extradite(request) => judge_request(tables, live, domain, request).err(),
-        Request::InstallLoad(request) => judge_request(tables, live, domain, request).err(),
+        Request::DeleteObject(request) => judge_form(tables, live, domain, request),
+        Request::Install(request) => judge_form(tables, live, domain, request),
+        Request::MakeSelectable(request) => judge_form(tables, live, domain, request),
+        Request::Extradite(request) => judge_form(tables, live, domain, request),
+        Request::InstallLoad(request) => judge_form(tables, live, domain, request),
         Request::CardStatus { life } => judge_card_status(tables, domain, *life).err(),
         Request::EntryStatus(request) => judge_entry_status(tables, domain, request).err(),
         Request::Load(request) => judge_load(tables, live, channel, domain, request).err(),

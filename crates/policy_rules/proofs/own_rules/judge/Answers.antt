@@ -1,18 +1,19 @@
-use Rattle.std.proofs.Common.{rules, ◌≡◌, ℕ, ◌<◌, List, length, None, Some, arith, inl, inr, refl, sym, ap, subst, ◌∙◌}
+use Rattle.std.proofs.Common.{rules, ◌≡◌, ℕ, ◌<◌, List, length, None, Option, Some, inl, inr, refl, sym, ap, subst, ◌∙◌}
 use Rattle.std.specs.Prelude.{option_copied, slice_index_or}
 use Rattle.std.specs.Option.{option_map}
 use Rattle.std.proofs.lemmas.List.{get_or_default}
 use Rattle.policy_machine.specs.declared.channels.TheConstants.{CHANNELS}
-use Rattle.policy_rules.specs.Prelude.{ActsIn, Admitted, FailsFirst, IsCardStatusOf, IsFirst, IsForLoad, IsPlaceBefore, IsSound, Judges, LoadFails, Represents, RepresentsState, Well, channel_at, command_form, front_rules, get_status, install_load, managed_card_status, managed_delete_object, managed_entry_status, managed_extradition, managed_install, managed_put_key, managed_selectable, place_in, place_of, selected_on}
+use Rattle.policy_rules.specs.Prelude.{ActsIn, Admitted, FailsFirst, ForActingLive, IsCardStatusOf, IsFirst, IsForLoad, IsJudgedBehind, IsPlaceBefore, IsRequestOf, IsSound, Judges, LoadFails, Represents, RepresentsState, TellsChecks, Well, channel_at, command_form, front_rules, get_status, managed_card_status, managed_entry_status, managed_put_key, place_in, place_of, selected_on}
 use Rattle.policy_machine.proofs.GetDataLaws.{get_passes, get_refused}
 use Rattle.policy_machine.proofs.InitializeUpdateLaws.{offer_judged}
 use Rattle.policy_machine.proofs.Judging.{by_err, judged_by}
 use Rattle.policy_machine.proofs.ManageChannelLaws.{open_passes, open_refused}
-use Rattle.policy_machine.proofs.InstallLoadLaws.{load_install_judged}
+use Rattle.policy_machine.specs.declared.rule.Rule.{Rule}
 use Rattle.policy_machine.proofs.PutKeyLaws.{put_judged}
 use Rattle.policy_machine.proofs.SelectLaws.{select_passes, select_refused}
 use Rattle.policy_rules.proofs.DataAsked.{asked_for, asks, has_data}
 use Rattle.policy_slots.proofs.Selected.{selected_acts, selected_entry}
+use Rattle.policy_rules.specs.declared.request.Request.{Request}
 use Rattle.policy_rules.proofs.own_rules.judge.Goals as goal
 use Rattle.policy_rules.proofs.own_rules.judge.Goals.{After-unwrap-domain}
 
@@ -22,6 +23,14 @@ acts_in : (c : After-unwrap-domain) (page : ℕ → List ℕ) (admitted : Admitt
 acts_in c page admitted says sound here =
     let is : slice_index_or c.args.live.now.selected c.args.channel None ≡ Some c.unwrap-domain.result = search rules in
     selected_acts page c.args.tables.now c.args.live.now admitted c.args.channel c.unwrap-domain.result says sound c.requires.channel is here
+
+-- what is judged so for a form is judged so of the command
+form_judged : (c : After-unwrap-domain) (request : Request) (found : Option Rule) → c.args.request.now ≡ request
+    → ForActingLive c.args.tables.now c.args.live.now c.unwrap-domain.result (λ page admitted. IsRequestOf request admitted.command → Judges admitted found)
+    → (page : ℕ → List ℕ) (admitted : Admitted) → RepresentsState page c.args.tables.now c.args.live.now admitted.at → IsSound admitted.at → c.args.channel ≡ admitted.channel
+    → IsRequestOf c.args.request.now admitted.command → IsJudgedBehind admitted.command.ins → TellsChecks c.args.checks_fit admitted → Judges admitted found
+form_judged c request found is holds page admitted says sound here asked behind checks =
+    holds page admitted (acts_in c page admitted says sound here) says sound.fits.channels (subst (λ (r : Request). IsRequestOf r admitted.command) is asked)
 
 pub returns-in-Ok-clause-judged : goal.returns-in-Ok-clause-judged
 returns-in-Ok-clause-judged c page admitted says sound here request behind checks =
@@ -106,57 +115,20 @@ returns-in-DeleteKey-clause-judged c page admitted says sound here request behin
     rw c.err-in-DeleteKey.ensures.value (by_err (Judges admitted) c.judge_delete_key.result
     (c.judge_delete_key.ensures.passed page admitted acts asked) (c.judge_delete_key.ensures.refused page admitted acts asked))
 
-pub judge_request-requires-clause-short : goal.judge_request-requires-clause-short
-judge_request-requires-clause-short c = (let meant = rw c.in-DeleteObject.is at c.requires.meant in omega (arith, meant.3.short, meant.4))
-
 pub returns-in-DeleteObject-clause-judged : goal.returns-in-DeleteObject-clause-judged
-returns-in-DeleteObject-clause-judged c page admitted says sound here request behind checks =
-    let asked = rw c.in-DeleteObject.is at request in
-    let acts = acts_in (goal.at.returns-in-DeleteObject-clause-judged c).After-unwrap-domain page admitted says sound here in
-    rw c.err-in-DeleteObject.ensures.value (judged_by (command_form managed_delete_object) (λ holds here. inr (inl here)) admitted asked.form refl _
-    (c.judge_request.ensures.passed page admitted acts (says, sound.fits.channels) asked.means)
-    (c.judge_request.ensures.refused page admitted acts (says, sound.fits.channels) asked.means))
-
-pub judge_request-requires-in-Install-clause-short : goal.judge_request-requires-in-Install-clause-short
-judge_request-requires-in-Install-clause-short c = (let meant = rw c.in-Install.is at c.requires.meant in omega (arith, meant.3.short, meant.4))
+returns-in-DeleteObject-clause-judged c = form_judged (goal.at.returns-in-DeleteObject-clause-judged c).After-unwrap-domain _ _ c.in-DeleteObject.is c.judge_form.ensures.judged
 
 pub returns-in-Install-clause-judged : goal.returns-in-Install-clause-judged
-returns-in-Install-clause-judged c page admitted says sound here request behind checks =
-    let asked = rw c.in-Install.is at request in
-    let acts = acts_in (goal.at.returns-in-Install-clause-judged c).After-unwrap-domain page admitted says sound here in
-    rw c.err-in-Install.ensures.value (judged_by (command_form managed_install) (λ holds here. inl here) admitted asked.form refl _
-    (c.judge_request-in-Install.ensures.passed page admitted acts says.load asked.means) (c.judge_request-in-Install.ensures.refused page admitted acts says.load asked.means))
-
-pub judge_request-requires-in-MakeSelectable-clause-short : goal.judge_request-requires-in-MakeSelectable-clause-short
-judge_request-requires-in-MakeSelectable-clause-short c = (let meant = rw c.in-MakeSelectable.is at c.requires.meant in omega (arith, meant.3.short, meant.4))
+returns-in-Install-clause-judged c = form_judged (goal.at.returns-in-Install-clause-judged c).After-unwrap-domain _ _ c.in-Install.is c.judge_form-in-Install.ensures.judged
 
 pub returns-in-MakeSelectable-clause-judged : goal.returns-in-MakeSelectable-clause-judged
-returns-in-MakeSelectable-clause-judged c page admitted says sound here request behind checks =
-    let asked = rw c.in-MakeSelectable.is at request in
-    let acts = acts_in (goal.at.returns-in-MakeSelectable-clause-judged c).After-unwrap-domain page admitted says sound here in
-    rw c.err-in-MakeSelectable.ensures.value (judged_by (command_form managed_selectable) (λ holds here. inr (inl here)) admitted asked.form refl _
-    (c.judge_request-in-MakeSelectable.ensures.passed page admitted acts tt asked.means) (c.judge_request-in-MakeSelectable.ensures.refused page admitted acts tt asked.means))
-
-pub judge_request-requires-in-Extradite-clause-short : goal.judge_request-requires-in-Extradite-clause-short
-judge_request-requires-in-Extradite-clause-short c = (let meant = rw c.in-Extradite.is at c.requires.meant in omega (arith, meant.3.short, meant.4))
+returns-in-MakeSelectable-clause-judged c = form_judged (goal.at.returns-in-MakeSelectable-clause-judged c).After-unwrap-domain _ _ c.in-MakeSelectable.is c.judge_form-in-MakeSelectable.ensures.judged
 
 pub returns-in-Extradite-clause-judged : goal.returns-in-Extradite-clause-judged
-returns-in-Extradite-clause-judged c page admitted says sound here request behind checks =
-    let asked = rw c.in-Extradite.is at request in
-    let acts = acts_in (goal.at.returns-in-Extradite-clause-judged c).After-unwrap-domain page admitted says sound here in
-    rw c.err-in-Extradite.ensures.value (judged_by (command_form managed_extradition) (λ holds here. inr (inr (inl here))) admitted asked.form refl _
-    (c.judge_request-in-Extradite.ensures.passed page admitted acts tt asked.means) (c.judge_request-in-Extradite.ensures.refused page admitted acts tt asked.means))
-
-pub judge_request-requires-in-InstallLoad-clause-short : goal.judge_request-requires-in-InstallLoad-clause-short
-judge_request-requires-in-InstallLoad-clause-short c = (let meant = rw c.in-InstallLoad.is at c.requires.meant in omega (arith, meant.3.short, meant.4))
+returns-in-Extradite-clause-judged c = form_judged (goal.at.returns-in-Extradite-clause-judged c).After-unwrap-domain _ _ c.in-Extradite.is c.judge_form-in-Extradite.ensures.judged
 
 pub returns-in-InstallLoad-clause-judged : goal.returns-in-InstallLoad-clause-judged
-returns-in-InstallLoad-clause-judged c page admitted says sound here request behind checks =
-    let asked = rw c.in-InstallLoad.is at request in
-    let acts = acts_in (goal.at.returns-in-InstallLoad-clause-judged c).After-unwrap-domain page admitted says sound here in
-    load_install_judged admitted _ asked.form
-    (rw c.err-in-InstallLoad.ensures.value (by_err (FailsFirst install_load admitted) c.judge_request-in-InstallLoad.result
-    (c.judge_request-in-InstallLoad.ensures.passed page admitted acts says.load asked.means) (c.judge_request-in-InstallLoad.ensures.refused page admitted acts says.load asked.means)))
+returns-in-InstallLoad-clause-judged c = form_judged (goal.at.returns-in-InstallLoad-clause-judged c).After-unwrap-domain _ _ c.in-InstallLoad.is c.judge_form-in-InstallLoad.ensures.judged
 
 pub returns-in-CardStatus-clause-judged : goal.returns-in-CardStatus-clause-judged
 returns-in-CardStatus-clause-judged c page admitted says sound here request behind checks =

@@ -14,16 +14,16 @@ judge_request-requires-clause-in_order g c = subst IsInOrder (sym c.tables.ensur
 pub judge_request-requires-clause-short : goal.judge_request-requires-clause-short
 judge_request-requires-clause-short g c =
     let formed = c.requires.formed in
-    omega (arith, (g.met.M.ConfirmedRequest.read c.args.self.now formed.0 formed.1).1, formed.2)
+    omega (arith, g.met.M.FormRequest.fits c.args.self.now formed.0.p1 formed.0.p2 formed.0.body formed.1.means, formed.2)
 
 pub returns-in_err-judged-clause-done : goal.returns-in_err-judged-clause-done
 returns-in_err-judged-clause-done g c page admitted acts says channels request holds =
-    let met = g.met.M.ConfirmedRequest in
+    let met = g.met.M.FormRequest in
     let rule = c.in_err-judged.field-0.0 in
     let told = met.shown page c.args.records.now.tables c.args.acting.now.live.now admitted says channels in
     refusal_managed admitted page c.args.records.now.tables c.args.reply.now.items c.from_residual.result rule c.from_residual.ensures.1
-    ((met.formed c.args.self.now admitted request).judges (Some rule)
-    ((rw c.tables.ensures.tables at c.in_err-judged.ensures.refused) page admitted acts told (met.read c.args.self.now admitted.command request).0)) c.requires.empty
+    (met.judges c.args.self.now admitted request (Some rule)
+    ((rw c.tables.ensures.tables at c.in_err-judged.ensures.refused) page admitted acts told (met.read c.args.self.now admitted.command request))) c.requires.empty
 
 pub returns-in_err-judged-clause-selected : goal.returns-in_err-judged-clause-selected
 returns-in_err-judged-clause-selected g c = entries_selected c.args.acting.now.live.now c.args.records.now.tables.entries.items c.args.records.now.tables.entries.items refl
@@ -48,7 +48,7 @@ confirm-requires-clause-able g c =
 
 pub returns : goal.returns
 returns g c =
-    let met = g.met.M.ConfirmedRequest in
+    let met = g.met.M.FormRequest in
     let rules = g.M.JudgedRequest.form in
     let live = c.args.acting.now.live.now in
     let before = c.args.records.now.tables in
@@ -57,11 +57,12 @@ returns g c =
     let receipter = c.in_ok-judged.judged.receipter in
     record {
       done = λ page admitted acts says channels request holds.
-          (let is = met.formed c.args.self.now admitted request in
-          let first = (rw c.tables.ensures.tables at c.in_ok-judged.ensures.passed) page admitted acts (met.shown page before live admitted says channels) (met.read c.args.self.now admitted.command request).0 in
+          (let is = g.met.M.ConfirmedRequest.formed c.args.self.now admitted request in
+          let told = met.shown page before live admitted says channels in
+          let first = (rw c.tables.ensures.tables at c.in_ok-judged.ensures.passed) page admitted acts told (met.read c.args.self.now admitted.command request) in
           let finds = (rw c.tables.ensures.tables at c.in_ok-judged.ensures.receipter) page admitted acts is.receipted_is in
           let found = finds_receipter (rules.delegation.is_delegated admitted) before admitted receipter finds in
-          confirmed_managed g.M.ConfirmedRequest.managed rules admitted g.M.JudgedRequest.receipted is first page before after last c.args.acting.now.domain c.requires.cards acts
+          confirmed_managed g.M.ConfirmedRequest.managed rules admitted g.M.JudgedRequest.receipted is (met.judges c.args.self.now admitted request None first) page before after last c.args.acting.now.domain c.requires.cards acts
           receipter finds (c.change-about.ensures.confirmer page admitted acts receipter found).0
           _ (c.change-about.ensures.becomes page admitted acts request) c.confirm.new.reply.items c.confirm.ensures.answered (record { 0 = 0x9000 }) refl);
       selected = selected_on live before.entries.items after.entries.items last.entries.items c.change-about.ensures.selected c.confirm.ensures.aids;

@@ -1,10 +1,23 @@
-use Rattle.std.proofs.Common.{refl, subst, sym}
+use Rattle.std.proofs.Common.{◌∷◌, ℕ, List, [], ap, refl, subst, sym}
 use Rattle.std.specs.Prelude.{IsSome}
-use Rattle.card_core.proofs.Becoming.{deleted}
 use Rattle.card_core.proofs.Cards.{in_order}
 use Rattle.card_core.proofs.Deleting.{confirmer_stays, deletion_able, deletion_keeps, deletion_selected, issuer_stays}
-use Rattle.card_core.specs.Prelude.{BecomesAsAsked, managed_delete_object}
+use Rattle.card_core.specs.Prelude.{Admitted, BecomesAsAsked, IsDeletionOf, Represents, managed_delete_object, without_thing}
+use Rattle.card_types.specs.declared.tables.Tables.{Tables}
+use Rattle.content_rules.specs.declared.delete_object.DeletionRequest.{DeletionRequest}
 use Rattle.card_core.proofs.delete_object.DeletionRequestConfirmedRequest.change.Goals as goal
+
+-- the thing is gone
+deleted : (page : ℕ → List ℕ) (after : Tables) (admitted : Admitted) (request : DeletionRequest) → IsDeletionOf request admitted.command → Represents page after (without_thing admitted.at.registry request.aid)
+    → BecomesAsAsked managed_delete_object admitted page after (request.aid ∷ [])
+deleted page after admitted request is says = record {
+  asked = is.asked;
+  asks = is.asks;
+  changed = without_thing admitted.at.registry is.asked.aid;
+  becomes = refl;
+  says = subst (λ (name : List ℕ). Represents page after (without_thing admitted.at.registry name)) is.aid says;
+  about = ap (λ (name : List ℕ). name ∷ []) is.aid;
+}
 
 pub remove-requires : goal.remove-requires
 remove-requires g c =
@@ -31,7 +44,7 @@ returns g c =
     let issuer = (in_order before c.requires.cards).layout.issuer in
     record {
       becomes = λ page admitted acts is. subst (BecomesAsAsked managed_delete_object admitted page after) (sym c.new.ensures)
-          (deleted page before after domain admitted acts request is.means (remove.said page admitted.at.registry acts.says acts.well request.aid found.named));
+          (deleted page after admitted request is.means (remove.said page admitted.at.registry acts.says acts.well request.aid found.named));
       confirmer = λ page admitted acts receipter confirms.
           (let stays = confirmer_stays page before domain admitted acts request.related thing found.alone receipter confirms in
           let root = issuer_stays page before admitted.at.registry acts.says acts.well issuer request.related thing found.lasting in (

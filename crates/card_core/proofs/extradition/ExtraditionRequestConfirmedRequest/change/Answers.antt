@@ -1,14 +1,37 @@
-use Rattle.std.proofs.Common.{rules, ◌≡◌, None, Some, refl, subst, sym}
-use Rattle.std.specs.Prelude.{IsSome}
+use Rattle.std.proofs.Common.{rules, ◌≡◌, ◌∷◌, ◌∙◌, ℕ, List, [], Option, None, Some, ap, refl, subst, sym}
+use Rattle.std.specs.Prelude.{IsSome, unwrap_or}
 use Rattle.card_core.proofs.Answered.{aids_selected, numbers_confirmer, thing_room, thing_room_again}
-use Rattle.card_core.proofs.Becoming.{extradited}
 use Rattle.card_core.proofs.EntryCards.{aids_kept, moved_cards, moving_keeps}
 use Rattle.card_core.proofs.FreePages.{moved_free}
 use Rattle.card_core.proofs.SomeAdmitted.{of_card, some_acts, some_admitted}
 use Rattle.card_core.proofs.StatusChanged.{used_by_name}
-use Rattle.card_core.specs.Prelude.{BecomesAsAsked, Well, held, managed_extradition}
+use Rattle.card_core.specs.Prelude.{ActsIn, Admitted, BecomesAsAsked, FindsMove, IsExtraditionOf, Represents, Well, domain_aid, domain_of_thing, held, managed_extradition, moved}
 use Rattle.policy_machine.proofs.ExtraditionLaws.{moved_of_card}
+use Rattle.card_types.proofs.Domains.{domain_aid_is}
+use Rattle.card_types.specs.declared.tables.Entry.{Entry}
+use Rattle.card_types.specs.declared.tables.Tables.{Tables}
+use Rattle.content_rules.specs.declared.extradition.Extradition.{Extradition}
+use Rattle.content_rules.specs.declared.extradition.ExtraditionRequest.{ExtraditionRequest}
 use Rattle.card_core.proofs.extradition.ExtraditionRequestConfirmedRequest.change.Goals as goal
+
+-- the thing is in its new domain
+extradited : (page : ℕ → List ℕ) (before after : Tables) (domain : ℕ) (admitted : Admitted) → ActsIn page before domain admitted
+    → (request : ExtraditionRequest) → IsExtraditionOf request admitted.command → (found : Extradition) → FindsMove request before found
+    → (from : Entry) → held before.entries.items found.from ≡ Some from
+    → Represents page after (moved admitted.at.registry request.aid (domain_aid before.entries.items found.to))
+    → BecomesAsAsked managed_extradition admitted page after (from.aid ∷ request.aid ∷ request.to ∷ [])
+extradited page before after domain admitted acts request is found finds from at says =
+    let into = ap (λ (o : Option (List ℕ)). unwrap_or o []) finds.to ∙ is.to in
+    let old = sym (domain_aid_is before.entries.items found.from from at) ∙ finds.from page admitted.at.registry acts.says acts.well ∙ ap (domain_of_thing admitted.at.registry) is.aid in
+    record {
+      asked = is.given;
+      asks = is.asks;
+      changed = moved admitted.at.registry is.given.third is.given.first;
+      becomes = refl;
+      says = subst (λ (name : List ℕ). Represents page after (moved admitted.at.registry is.given.third name)) into
+          (subst (λ (name : List ℕ). Represents page after (moved admitted.at.registry name (domain_aid before.entries.items found.to))) is.aid says);
+      about = λ i. old i ∷ is.aid i ∷ is.to i ∷ [];
+    }
 
 pub move_to-requires : goal.move_to-requires
 move_to-requires g c =

@@ -1,15 +1,37 @@
-use Rattle.std.proofs.Common.{Some, refl, subst, sym}
-use Rattle.std.specs.Prelude.{IsSome}
+use Rattle.std.proofs.Common.{◌≡◌, ◌∷◌, ◌∙◌, ℕ, List, [], Option, Some, ap, refl, subst, sym}
+use Rattle.std.specs.Prelude.{IsSome, unwrap_or}
 use Rattle.card_core.proofs.Answered.{aids_selected, entry_room, numbers_confirmer, room_again}
-use Rattle.card_core.proofs.Becoming.{installed, named_there}
 use Rattle.card_core.proofs.EntryCards.{adding_keeps, aids_kept, entry_cards}
 use Rattle.card_core.proofs.FreePages.{files_free}
 use Rattle.card_core.proofs.SomeAdmitted.{domain_named, domain_there, of_card, some_acts, some_admitted, some_load}
-use Rattle.card_core.specs.Prelude.{BecomesAsAsked, NoneHas, held, managed_install}
-use Rattle.card_types.specs.declared.tables.Entry.{Entry}
+use Rattle.card_core.specs.Prelude.{ActsIn, Admitted, BecomesAsAsked, Entry, IsEntryAdded, IsInstallOf, NoneHas, Registry, Represents, aid_of, entry_made, entry_of, file_aid, held, managed_install, slot_made}
+use Rattle.card_types.specs.declared.tables.Entry.{Entry as Slot}
 use Rattle.card_types.specs.declared.tables.LoadFile.{LoadFile}
+use Rattle.card_core.proofs.StatusChanged.{named_there}
 use Rattle.policy_machine.proofs.InstallApplicationLaws.{made_of_card}
+use Rattle.card_types.specs.declared.found.Found.TheVariants as thing
+use Rattle.card_types.specs.declared.tables.Tables.{Tables}
+use Rattle.content_rules.specs.declared.install_application.InstallRequest.{InstallRequest}
 use Rattle.card_core.proofs.install_application.InstallRequestConfirmedRequest.change.Goals as goal
+
+-- the entry is there
+installed : (page : ℕ → List ℕ) (before after : Tables) (domain : ℕ) (admitted : Admitted) → ActsIn page before domain admitted
+    → (request : InstallRequest) → IsInstallOf request admitted.command → (file : ℕ) → aid_of before (thing.File file) ≡ Some request.file
+    → (entry : Slot) → entry ≡ slot_made request domain file
+    → (now : Registry) × IsEntryAdded (entry_of before.entries.items before.files.items entry) admitted.at.registry now × Represents page after now
+    → BecomesAsAsked managed_install admitted page after (request.file ∷ request.aid ∷ [])
+installed page before after domain admitted acts request is file at entry made added =
+    let from : file_aid before.files.items file ≡ is.asked.given.first = ap (λ (o : Option (List ℕ)). unwrap_or o []) at ∙ is.file in
+    let named : entry_of before.entries.items before.files.items (slot_made request domain file) ≡ entry_made admitted is.asked =
+    rw (sym acts.on, from, is.aid, is.module_, is.privileges, is.selectable) refl in
+    record {
+      asked = is.asked;
+      asks = is.asks;
+      changed = added.0;
+      becomes = subst (λ (e : Entry). IsEntryAdded e admitted.at.registry added.0) (ap (entry_of before.entries.items before.files.items) made ∙ named) added.1;
+      says = added.2;
+      about = λ i. is.file i ∷ is.aid i ∷ [];
+    }
 
 pub place_entry-requires : goal.place_entry-requires
 place_entry-requires g c =
@@ -18,10 +40,10 @@ place_entry-requires g c =
     let there = domain_there tables.entries.items c.args.acting.now.domain c.requires.domain in
     record {
       live = c.requires.live;
-      domain = subst (λ (entry : Entry). IsSome (held tables.entries.items entry.domain)) (sym c.made.ensures) (subst IsSome (sym there.1) refl);
-      file = subst (λ (entry : Entry). IsSome (held tables.files.items entry.file)) (sym c.made.ensures)
+      domain = subst (λ (entry : Slot). IsSome (held tables.entries.items entry.domain)) (sym c.made.ensures) (subst IsSome (sym there.1) refl);
+      file = subst (λ (entry : Slot). IsSome (held tables.files.items entry.file)) (sym c.made.ensures)
           (named_there (λ (file : LoadFile). file.aid) (held tables.files.items c.args.file) c.args.self.now.file found.file);
-      fresh = subst (λ (entry : Entry). NoneHas tables entry.aid) (sym c.made.ensures) found.free;
+      fresh = subst (λ (entry : Slot). NoneHas tables entry.aid) (sym c.made.ensures) found.free;
       free = found.room;
       room = entry_room c.args.records.now.staged c.requires.clean;
     }
