@@ -3,11 +3,10 @@ use Rattle.std.proofs.Common.{◌≡◌, ◌⊎◌, ℕ, ◌<◌, List, true, fa
 use Rattle.std.specs.Prelude.{Contains, IfErr, IfSome, slice_index_or, slice_set, take, ◌++◌, ◌==◌}
 use Rattle.std.specs.Result.{IsErrAnd}
 use Rattle.std.proofs.lemmas.List.{set-set}
-use Rattle.card_core.specs.Prelude.{Admitted, Apdu, Bars, CarriesOutLoading, ForPassed, GeneralFails, HasCome, HasPages, IsFirst, IsInSession, IsKnown, IsOpenedIn, IsPassed, IsPassedOver, IsPlainManagement, IsTerminatedFor, Kept, Opens, OpensAs, Passes, RepresentsAll, RepresentsLoading, RepresentsSecureChannel, RepresentsSoundly, SecureChannel, Secured, Serves, ServesLoading, Session, Short, State, accepting, admitted_as, apdu_of, channel_at, channel_of, class_of, class_passed, command_rules, held_on, held_passed, in_plain, is_protected, kept_of, live_passed, live_without_load, live_without_place, managing, plain_of, protected, rule_of, secure_channel_of, sent, status_bytes, status_word, with_due}
+use Rattle.card_core.specs.Prelude.{Admitted, Apdu, Bars, CarriesOut, ForKept, GeneralFails, HasCome, HasPages, IsFirst, IsInSession, IsKnown, IsOpenedIn, IsPassed, IsPlainManagement, IsSound, IsTerminatedFor, Kept, KeptRepresents, Opens, OpensAs, Passes, RepresentsSecureChannel, SecureChannel, Secured, Serves, Session, Short, State, accepting, admitted_as, apdu_of, channel_at, channel_of, class_of, class_passed, command_rules, held_on, held_passed, in_plain, is_protected, kept_set, live_passed, live_without_load, live_without_place, loaded, managing, plain_of, protected, rule_of, secure_channel_of, sent, status_bytes, status_word}
 use Rattle.apdu_core.specs.declared.reply.Status.{Status}
 use Rattle.card_types.specs.declared.card_life.CardLife.{CardLife}
-use Rattle.card_types.specs.declared.tables.Tables.{Tables}
-use Rattle.load_session.specs.declared.session.LoadSession.{LoadSession}
+use Rattle.load_session.specs.declared.load_write.LoadWrite.{LoadWrite}
 use Rattle.policy_machine.proofs.Passing.{channel_is_low}
 use Rattle.policy_machine.specs.declared.instruction.TheConstants.{EXTERNAL_AUTHENTICATE, GET_DATA, GET_STATUS}
 use Rattle.policy_machine.specs.declared.channels.TheConstants.{CHANNELS}
@@ -17,102 +16,108 @@ use Rattle.policy_machine.specs.declared.rule.RuleG.{RuleG}
 use Rattle.policy_machine.specs.declared.rule.RuleG.TheVariants.{G5, G6}
 use Rattle.policy_slots.specs.declared.live.Live.{Live}
 use Rattle.policy_slots.specs.declared.live.Place.{Place}
-use Rattle.card_core.proofs.LoadsKept.{admitted_loading}
-use Rattle.card_core.proofs.Passed.{goes_on, holds_passed, managed_served, opened_so, opened_stands, over_served, passed_held, place_told, plain_stands, read_at, refused_served, session_of, written_at}
+use Rattle.card_core.proofs.Passed.{card_passed, goes_on, holds_passed, managed_served, opened_shows, opened_so, opened_sound, over_served, passed_held, place_told, plain_shows, read_at, refused_served, session_of, sound_at, written_at}
 use Rattle.card_core.proofs.Serving.{admits_opened, admits_plain, carried_out, protected_one}
 use Rattle.card_core.specs.declared.admit.Received.{Received}
 use Rattle.card_core.specs.declared.channel_session.ChannelSession.{ChannelSession}
 use Rattle.card_core.specs.declared.channel_session.ChannelSession.TheVariants as held
-use Rattle.card_core.specs.declared.loading.Loading.{Loading}
 
 -- a rule is handed on
 pub handed_on : (result : Result (Option ℕ) RuleG) (found : RuleG) (So : RuleG → Type 0) → IsErrAnd result (λ rule. rule ≡ found) → So found → IfErr result So
 handed_on (Ok opened) found So given so = absurd given
 handed_on (Err rule) found So given so = subst So (sym given) so
 
-pub has_come : (page : ℕ → List ℕ) (tables : Tables) (before : Live) (all : List ChannelSession) (state : State) (bytes : List ℕ) (received : Received) (live : Live) (place : ℕ) (other : ChannelSession)
-    → RepresentsSoundly page (kept_of tables before all) state → length all ≡ CHANNELS → IsFirst (GeneralFails state bytes) command_rules None → Short (apdu_of received.command) bytes
-    → received.channel ≡ channel_of received.command.class → slice_index_or before.selected received.channel None ≡ Some received.selected
-    → live ≡ live_without_place before received.channel → place ≡ received.channel → HasCome page tables before all state bytes received live (slice_index_or all place other)
-has_come page tables before all state bytes received live place other stands four front short channel selected forgotten is = record {
-  stands = stands;
-  four = four;
+pub has_come : (page : ℕ → List ℕ) (card : Kept) (state : State) (bytes : List ℕ) (received : Received) (live : Live) (place : ℕ) (other : ChannelSession)
+    → KeptRepresents page card state → IsSound state → IsFirst (GeneralFails state bytes) command_rules None → Short (apdu_of received.command) bytes
+    → received.channel ≡ channel_of received.command.class → slice_index_or card.live.selected received.channel None ≡ Some received.selected
+    → live ≡ live_without_place card.live received.channel → place ≡ received.channel → HasCome page card state bytes received live (slice_index_or card.sessions place other)
+has_come page card state bytes received live place other shows sound front short channel selected forgotten is = record {
+  shows = shows;
+  sound = sound;
   front = front;
   short = short;
   channel = channel;
   selected = selected;
   forgotten = forgotten;
-  holds = read_at all place received.channel other four (subst (λ (n : ℕ). n < CHANNELS) (sym channel) (channel_is_low received.command.class)) is;
+  holds = read_at card.sessions place received.channel other shows.four (subst (λ (n : ℕ). n < CHANNELS) (sym channel) (channel_is_low received.command.class)) is;
 }
 
-module _ (page : ℕ → List ℕ) (tables : Tables) (before : Live) (all : List ChannelSession) (state : State) (bytes : List ℕ) (received : Received) (live : Live) (old : ChannelSession)
-    (come : HasCome page tables before all state bytes received live old) where
+module _ (page : ℕ → List ℕ) (card : Kept) (state : State) (bytes : List ℕ) (received : Received) (live : Live) (old : ChannelSession) (come : HasCome page card state bytes received live old) where
   abbrev command : Apdu
   command = apdu_of received.command
 
   abbrev number : ℕ
   number = channel_of received.command.class
 
+  -- what is kept after the check of the class
+  abbrev checked_card : Kept
+  checked_card = card_passed page card state come.shows come.sound command
+
   module _ (known : IsKnown received.command.class received.command.ins) (class_is : class_of received.command.class ≡ Some received.class) where
     -- the card is terminated
-    pub over_barred : (now : ChannelSession) → now ≡ held_passed false old → (rule : RuleG) → rule ≡ G5 → IsTerminatedFor tables.life received.class received.command.ins
-        → Bars page (kept_of tables live (slice_set all received.channel now)) state bytes rule
-    over_barred now lost rule is over loading reply loads closed =
+    pub over_barred : (now : ChannelSession) → now ≡ held_passed false old → (rule : RuleG) → rule ≡ G5 → IsTerminatedFor card.tables.life received.class received.command.ins
+        → Bars page (kept_set card live received.channel now) state bytes rule
+    over_barred now lost rule is over reply closed =
         rw (is, lost, come.holds, come.forgotten, come.channel)
-        (over_served page tables before all state come.stands come.four command loading loads bytes reply come.short received.class class_is known come.front
-        (subst (λ (life : CardLife). IsTerminatedFor life received.class received.command.ins) come.stands.shows.says.registry.life over) (rw is at closed))
+        (over_served page card state come.shows come.sound command bytes reply come.short received.class class_is known come.front
+        (subst (λ (life : CardLife). IsTerminatedFor life received.class received.command.ins) come.shows.says.registry.life over) (rw is at closed))
 
     -- the card goes on, with what the channel holds after the check of the class
     module _ (checked : ChannelSession) (passed : checked ≡ held_passed (received.command.ins == EXTERNAL_AUTHENTICATE) old)
-        (not_over : IsTerminatedFor tables.life received.class received.command.ins → ⊥) where
+        (not_over : IsTerminatedFor card.tables.life received.class received.command.ins → ⊥) where
       goes : IsTerminatedFor state.registry.life received.class received.command.ins → ⊥
-      goes = goes_on page tables before all state come.stands come.four command received.class not_over
+      goes = goes_on page card state come.shows come.sound command received.class not_over
 
-      opened : slice_index_or before.selected number None ≡ Some received.selected
-      opened = opened_so before command received.channel received.selected come.channel come.selected
+      opened : slice_index_or card.live.selected number None ≡ Some received.selected
+      opened = opened_so card.live command received.channel received.selected come.channel come.selected
 
-      checked_is : checked ≡ passed_held all come.four command
-      checked_is = passed ∙ ap (held_passed (received.command.ins == EXTERNAL_AUTHENTICATE)) (come.holds ∙ ap (held_on all) come.channel)
+      checked_is : checked ≡ passed_held page card state come.shows come.sound command
+      checked_is = passed ∙ ap (held_passed (received.command.ins == EXTERNAL_AUTHENTICATE)) (come.holds ∙ ap (held_on card.sessions) come.channel)
 
-      there : checked ≡ slice_index_or (slice_set all number (passed_held all come.four command)) number held.Nothing
-      there = checked_is ∙ sym (written_at all number number (passed_held all come.four command) held.Nothing come.four (channel_is_low received.command.class) refl)
+      there : checked ≡ held_on checked_card.sessions number
+      there =
+          checked_is ∙ sym (written_at card.sessions number number (passed_held page card state come.shows come.sound command) held.Nothing come.shows.four
+          (channel_is_low received.command.class) refl)
 
       abbrev secure_channel : SecureChannel
       secure_channel = secure_channel_of (channel_at (class_passed state.volatile command) number)
 
       holds : RepresentsSecureChannel checked secure_channel
-      holds = subst (λ (h : ChannelSession). RepresentsSecureChannel h secure_channel) (sym there) (holds_passed page tables before all state come.stands come.four command)
+      holds = subst (λ (h : ChannelSession). RepresentsSecureChannel h secure_channel) (sym there) (holds_passed page card state come.shows come.sound command)
 
-      twice : (now : ChannelSession) → slice_set (slice_set all number (passed_held all come.four command)) number now ≡ slice_set all number now
-      twice now = set-set all number (passed_held all come.four command) now
+      -- what is written to the channel is all that was written to it
+      twice : (now : ChannelSession) → slice_set checked_card.sessions number now ≡ slice_set card.sessions number now
+      twice now = set-set card.sessions number (passed_held page card state come.shows come.sound command) now
 
       -- the session of the channel ends, or there is none
-      ended_on : (rule : RuleG) (now : ChannelSession) (live' : Live) → live' ≡ live_without_load live received.channel → (loading : Option LoadSession) (reply : List ℕ)
-          → Serves page state bytes (kept_of tables (live_without_load (live_without_place before number) number) (slice_set (slice_set all number (passed_held all come.four command)) number now)) loading reply (Some (G rule))
-          → Serves page state bytes (kept_of tables live' (slice_set all received.channel now)) loading reply (Some (G rule))
-      ended_on rule now live' ended loading reply serves =
+      ended_on : (rule : RuleG) (now : ChannelSession) (live' : Live) → live' ≡ live_without_load live received.channel → (reply : List ℕ)
+          → Serves page state bytes (kept_set checked_card (live_without_load checked_card.live number) number now) reply (Some (G rule))
+          → Serves page state bytes (kept_set card live' received.channel now) reply (Some (G rule))
+      ended_on rule now live' ended reply serves =
           rw (ended, come.forgotten, come.channel)
-          (subst (λ (h : List ChannelSession). Serves page state bytes (kept_of tables (live_without_load (live_without_place before number) number) h) loading reply (Some (G rule))) (twice now) serves)
+          (subst (λ (h : List ChannelSession). Serves page state bytes
+          (record { tables = card.tables; live = live_without_load checked_card.live number; sessions = h; load = card.load }) reply (Some (G rule))) (twice now) serves)
 
       -- card content management in plain
       pub managed_barred : IsPlainManagement command → (now : ChannelSession) → now ≡ held.Nothing → (live' : Live) → live' ≡ live_without_load live received.channel
-          → Bars page (kept_of tables live' (slice_set all received.channel now)) state bytes G6
-      managed_barred managed now gone live' ended loading reply loads closed =
-          ended_on G6 now live' ended loading reply
-          (managed_served page tables before all state come.stands come.four command received.selected opened loading loads bytes reply come.short known received.class class_is come.front goes managed now gone closed)
+          → Bars page (kept_set card live' received.channel now) state bytes G6
+      managed_barred managed now gone live' ended reply closed =
+          ended_on G6 now live' ended reply
+          (managed_served page card state come.shows come.sound command received.selected opened bytes reply come.short known received.class class_is come.front goes managed now gone closed)
 
       shown_on : (now : ChannelSession) (live' : Live) → live' ≡ live_passed received.command.ins received.channel live → (left : State)
-          → RepresentsSoundly page (kept_of tables (live_passed received.command.ins number (live_without_place before number)) (slice_set all number now)) left
-          → RepresentsSoundly page (kept_of tables live' (slice_set all received.channel now)) left
-      shown_on now live' passes left stands = rw (passes, come.forgotten, come.channel) stands
+          → KeptRepresents page (kept_set card (live_passed received.command.ins number checked_card.live) number now) left
+          → KeptRepresents page (kept_set card live' received.channel now) left
+      shown_on now live' passes left shows = rw (passes, come.forgotten, come.channel) shows
 
       -- any other command in plain
       pub plain_passed : is_protected command ≡ false → (IsPlainManagement command → ⊥) → (live' : Live) → live' ≡ live_passed received.command.ins received.channel live → (plain : List ℕ)
-          → Passes page (kept_of tables live' (slice_set all received.channel checked)) state bytes command checked None plain
+          → Passes page (kept_set card live' received.channel checked) state bytes command checked None plain
       plain_passed unprotected unmanaged live' passes plain = record {
         session = None;
         admits = admits_plain state bytes command come.short known received.class class_is come.front goes unmanaged unprotected;
-        stands = shown_on checked live' passes (admitted_as state command None command.body).at (rw checked_is (plain_stands page tables before all state come.stands come.four command unprotected));
+        shows = shown_on checked live' passes (admitted_as state command None command.body).at (rw checked_is (plain_shows page card state come.shows come.sound command));
+        sound = sound_at page card state come.shows come.sound command None command.body (unprotected, refl);
         opened_in = tt;
       }
 
@@ -120,60 +125,55 @@ module _ (page : ℕ → List ℕ) (tables : Tables) (before : Live) (all : List
         -- a protected command that opens
         pub opened_passed : (count : ℕ) → ((channel : SecureChannel) → RepresentsSecureChannel checked channel → OpensAs command channel checked now plain (Ok count))
             → (live' : Live) → live' ≡ live_passed received.command.ins received.channel live
-            → Passes page (kept_of tables live' (slice_set all received.channel now)) state bytes command now (Some count) plain
+            → Passes page (kept_set card live' received.channel now) state bytes command now (Some count) plain
         opened_passed count opens live' passes =
-            let found = session_of page tables before all state come.stands come.four command
+            let found = session_of page card state come.shows come.sound command
             (λ session. Opens session command (take count plain) × RepresentsSecureChannel now (Secured (accepting session command))) (opens secure_channel holds) in
             let left : State = (admitted_as state command (Some (accepting found.0 command)) (take count plain)).at in
             record {
               session = Some (accepting found.0 command);
               admits = admits_opened state bytes command come.short known received.class class_is come.front goes protected found.0 found.1 (take count plain) found.2.0;
-              stands = shown_on now live' passes left
-                  (subst (λ (h : List ChannelSession). RepresentsSoundly page (kept_of tables (live_passed received.command.ins number (live_without_place before number)) h) left) (twice now)
-                  (opened_stands page tables before all state come.stands come.four command received.selected opened protected found.0 found.1 now (take count plain) found.2.0 found.2.1));
+              shows = shown_on now live' passes left
+                  (subst (λ (h : List ChannelSession). KeptRepresents page
+                  (record { tables = card.tables; live = live_passed received.command.ins number checked_card.live; sessions = h; load = card.load }) left) (twice now)
+                  (opened_shows page card state come.shows come.sound command received.selected opened protected found.0 now (take count plain) found.2.1));
+              sound = opened_sound page card state come.shows come.sound command received.selected opened protected found.0 found.1 (take count plain) found.2.0;
               opened_in = found.2.1;
             }
 
         -- one that a rule on secure messaging refuses
         pub unopened_barred : (rule : RuleG) → ((channel : SecureChannel) → RepresentsSecureChannel checked channel → OpensAs command channel checked now plain (Err rule))
-            → (live' : Live) → live' ≡ live_without_load live received.channel → Bars page (kept_of tables live' (slice_set all received.channel now)) state bytes rule
-        unopened_barred rule opens live' ended loading reply loads closed =
-            ended_on rule now live' ended loading reply
-            (refused_served page tables before all state come.stands come.four command received.selected opened protected bytes come.short known received.class class_is come.front goes loading loads now plain reply rule
+            → (live' : Live) → live' ≡ live_without_load live received.channel → Bars page (kept_set card live' received.channel now) state bytes rule
+        unopened_barred rule opens live' ended reply closed =
+            ended_on rule now live' ended reply
+            (refused_served page card state come.shows come.sound command received.selected opened protected bytes come.short known received.class class_is come.front goes now plain reply rule
             (subst (λ (h : ChannelSession). OpensAs command secure_channel h now plain (Err rule)) there (opens secure_channel holds)) closed)
 
   -- a command that has passed, and the place in a listing that its channel had
-  module _ (loading : Option LoadSession) (loads : RepresentsLoading page tables loading state.volatile.load) (live' : Live) (now : ChannelSession) (opened : Option ℕ) (plain : List ℕ)
-      (passes : Passes page (kept_of tables live' (slice_set all received.channel now)) state bytes command now opened plain)
-      (whole : HasPages page) (place : ℕ) (place_is : place ≡ received.channel) (body : List ℕ) (body_is : body ≡ plain_of command opened plain)
-      (found : Option Place) (told : received.command.ins ≡ GET_STATUS → found ≡ slice_index_or before.places received.channel None) where
+  module _ (live' : Live) (now : ChannelSession) (opened : Option ℕ) (plain : List ℕ) (passes : Passes page (kept_set card live' received.channel now) state bytes command now opened plain)
+      (place : ℕ) (place_is : place ≡ received.channel) where
     abbrev judged : Admitted
     judged = admitted_as state command passes.session (plain_of command opened plain)
 
-    shown : RepresentsAll page (kept_of tables live' (slice_set all place now)) loading judged.at
-    shown = record {
-      on = subst (λ (n : ℕ). RepresentsSoundly page (kept_of tables live' (slice_set all n now)) judged.at) (sym place_is) passes.stands;
-      loading = admitted_loading page tables loading state command passes.session (plain_of command opened plain) loads;
-    }
-
-    passed_as : IsPassed received.channel (in_plain command body) found judged
-    passed_as = record {
-      on = come.channel;
-      is = ap (in_plain command) (sym body_is);
-      goes_on = λ ins. place_told page tables before all state come.stands command passes.session (plain_of command opened plain) received.channel come.channel
-          (subst (λ (n : ℕ). n < CHANNELS) (sym come.channel) (channel_is_low received.command.class)) found (told ins);
-    }
-
-    pub passed_over : IsPassedOver received.channel (in_plain command body) found (kept_of tables live' (slice_set all place now)) loading
-    passed_over = record { page = page; whole = whole; judged = judged; shows = shown; passed = passed_as }
+    pub shown : KeptRepresents page (kept_set card live' place now) judged.at
+    shown = subst (λ (n : ℕ). KeptRepresents page (kept_set card live' n now) judged.at) (sym place_is) passes.shows
 
     -- it was carried out, or refused by a rule of its own, and its reply is closed
-    pub closed_over : (card : Kept) (after : Loading) (sent_body reply : List ℕ) (result : Result Status Rule)
-        → ForPassed received.channel (in_plain command body) found (kept_of tables live' (slice_set all place now)) loading (λ at admitted. CarriesOutLoading at admitted card after sent_body result)
-        → ((session : Option Session) → IsOpenedIn opened now session → reply ≡ sent session sent_body (status_word result)) → ServesLoading page state bytes card after reply (rule_of result)
-    closed_over card after sent_body reply result does closed =
-        carried_out (with_due page after) state bytes command passes.session (plain_of command opened plain) card after.session sent_body reply result come.stands.sound passes.admits
-        (does page judged whole shown passed_as) (closed passes.session passes.opened_in)
+    pub closed_over : HasPages page → (body : List ℕ) → body ≡ plain_of command opened plain → (found : Option Place)
+        → (received.command.ins ≡ GET_STATUS → found ≡ slice_index_or card.live.places received.channel None) → (left : Kept) (writes : List LoadWrite) (sent_body reply : List ℕ) (result : Result Status Rule)
+        → ForKept (kept_set card live' place now) (λ at admitted. IsPassed received.channel (in_plain command body) found admitted → CarriesOut (loaded at writes) admitted left sent_body result)
+        → ((session : Option Session) → IsOpenedIn opened now session → reply ≡ sent session sent_body (status_word result)) → Serves (loaded page writes) state bytes left reply (rule_of result)
+    closed_over whole body body_is found told left writes sent_body reply result does closed =
+        carried_out (loaded page writes) state bytes command passes.session (plain_of command opened plain) left sent_body reply result come.sound passes.admits
+        (does page judged whole shown passes.sound passed_as) (closed passes.session passes.opened_in)
+      where
+        passed_as : IsPassed received.channel (in_plain command body) found judged
+        passed_as = record {
+          on = come.channel;
+          is = ap (in_plain command) (sym body_is);
+          goes_on = λ ins. place_told page card state come.shows command passes.session (plain_of command opened plain) received.channel come.channel
+              (subst (λ (n : ℕ). n < CHANNELS) (sym come.channel) (channel_is_low received.command.class)) found (told ins);
+        }
 
 -- the channel that was written to holds what was written
 pub written_on : (all : List ChannelSession) (place number : ℕ) (now : ChannelSession) → length all ≡ CHANNELS → number < CHANNELS → place ≡ number → held_on (slice_set all place now) number ≡ now

@@ -1,7 +1,7 @@
 -- What is so of the load session that a card keeps, by some state that it stands for.
 use Rattle.std.proofs.Common.{◌≡◌, ℕ, ◌+◌, ◌≤◌, List, Bool, true, Option, None, Some, sym, ap, subst, ◌∙◌, length, arith}
 use Rattle.std.specs.Prelude.{MatchOption, drop, unwrap_or}
-use Rattle.card_core.specs.Prelude.{AreFree, AreNewPages, Block, BringsBytes, HasPages, HoldsLoad, IsBlockTaken, IsDomainNamed, IsLoadNamed, IsWellLoad, LoadSession, NoneFree, NoneHas, RepresentsAfter, RepresentsLoad, RepresentsLoading, block_in, entry_named, file_named, is_domain_held, is_domain_in, len_of, load_aid, load_slot, loaded, pages_in, pages_of, with_block}
+use Rattle.card_core.specs.Prelude.{AreFree, AreNewPages, Block, BringsBytes, HasPages, IsBlockTaken, IsDomainNamed, IsLoadNamed, IsWellLoad, LoadSession, NoneFree, NoneHas, RepresentsAfter, RepresentsLoad, RepresentsLoading, RepresentsSome, block_in, entry_named, file_named, is_domain_held, is_domain_in, len_of, load_aid, load_slot, loaded, pages_in, pages_of, with_block}
 use Rattle.card_types.proofs.Domains.{domain_named_is_used}
 use Rattle.card_types.proofs.FoundNames.{found_entry_named, found_file_named}
 use Rattle.card_types.proofs.Room.{no_file_room}
@@ -15,6 +15,7 @@ use Rattle.policy_machine.proofs.LoadBlocksBrought.{some_announced}
 use Rattle.content_rules.specs.declared.load.LoadRequest.{LoadRequest}
 use Rattle.policy_slots.specs.declared.live.Live.{Live}
 use Rattle.policy_slots.specs.declared.live.LoadName.{LoadName}
+use Rattle.card_core.specs.declared.channel_session.ChannelSession.{ChannelSession}
 
 -- a load session is kept, whose file may be added
 pub record IsHeld (tables : Tables) (kept : Kept) : Type 0 where
@@ -48,27 +49,27 @@ module _ (tables : Tables) (kept after : Kept) (held : IsHeld tables kept) (requ
 pub new_free : (tables : Tables) (taken : List ℕ) (writes : List LoadWrite) → AreNewPages tables taken writes → AreFree tables writes
 new_free tables taken writes new = record { range = new.own.range; free = new.own.free; whole = new.whole }
 
-module _ (tables : Tables) (live : Live) (loading : Option Kept) (holds : HoldsLoad tables live loading) (name : LoadName) (named : live.load ≡ Some name)
+module _ (tables : Tables) (live : Live) (sessions : List ChannelSession) (loading : Option Kept) (holds : RepresentsSome (record { tables = tables; live = live; sessions = sessions; load = loading })) (name : LoadName) (named : live.load ≡ Some name)
     (kept : Kept) (at : loading ≡ Some kept) where
   module _ (load : LoadSession) (well : IsWellLoad holds.state.registry holds.state.volatile load) (stands : RepresentsLoad holds.page tables kept load) where
     domain_held : is_domain_in tables.entries.items (load_slot kept) ≡ true
     domain_held =
-        let used = domain_named_is_used holds.page tables holds.state.registry holds.says.registry holds.sound.well (load_slot kept)
+        let used = domain_named_is_used holds.page tables holds.state.registry holds.shows.says.registry holds.sound.well (load_slot kept)
         (subst (IsDomainNamed holds.state.registry) (sym stands.of.domain) well.domain) in
         ap is_domain_held used.1 ∙ used.2
 
     none_has : NoneHas tables (load_aid kept)
     none_has (found.Entry slot) there =
-        let has = found_entry_named holds.page tables holds.state.registry holds.says.registry slot (load_aid kept) there in
+        let has = found_entry_named holds.page tables holds.state.registry holds.shows.says.registry slot (load_aid kept) there in
         let clash = sym has.2 ∙ ap (entry_named holds.state.registry) stands.of.aid ∙ well.no_entry in
         cc
     none_has (found.File slot) there =
-        let has = found_file_named holds.page tables holds.state.registry holds.says.registry slot (load_aid kept) there in
+        let has = found_file_named holds.page tables holds.state.registry holds.shows.says.registry slot (load_aid kept) there in
         let clash = sym has.2 ∙ ap (file_named holds.state.registry) stands.of.aid ∙ well.no_file in
         cc
 
     some_free : length tables.files.items ≡ FILES → NoneFree tables.files.items → ⊥
-    some_free whole none = (let all = no_file_room holds.page tables holds.state.registry holds.says.registry none in omega (arith, all, whole, well.few_files))
+    some_free whole none = (let all = no_file_room holds.page tables holds.state.registry holds.shows.says.registry none in omega (arith, all, whole, well.few_files))
 
     held_so : IsHeld tables kept
     held_so = record {
@@ -86,8 +87,8 @@ module _ (tables : Tables) (live : Live) (loading : Option Kept) (holds : HoldsL
   -- it is so of the load session that is named
   pub held_load : IsHeld tables kept
   held_load =
-      by holds.state.volatile.load (subst (λ (n : Option LoadName). IsLoadNamed tables.entries.items n holds.state.volatile.load) named holds.says.load)
-      holds.sound.fits.load (subst (λ (session : Option Kept). RepresentsLoading holds.page tables session holds.state.volatile.load) at holds.kept)
+      by holds.state.volatile.load (subst (λ (n : Option LoadName). IsLoadNamed tables.entries.items n holds.state.volatile.load) named holds.shows.says.load)
+      holds.sound.fits.load (subst (λ (session : Option Kept). RepresentsLoading holds.page tables session holds.state.volatile.load) at holds.shows.loading)
     where
       by : (load : Option LoadSession) → IsLoadNamed tables.entries.items (Some name) load
           → MatchOption load (Unit {0}) (IsWellLoad holds.state.registry holds.state.volatile) → RepresentsLoading holds.page tables (Some kept) load → IsHeld tables kept

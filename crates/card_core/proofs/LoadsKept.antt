@@ -1,7 +1,7 @@
 -- What is kept of the load session, while other commands come.
 use Rattle.std.proofs.Common.{◌≡◌, ◌≢◌, ◌⊎◌, ℕ, List, [], Bool, true, false, Option, None, Some, Result, Ok, Err, refl, sym, subst, ◌∙◌, inl, inr, arith}
 use Rattle.std.specs.Prelude.{All, IfSome, MatchOption, if◌then◌else◌, ◌==◌}
-use Rattle.card_core.specs.Prelude.{Admitted, Apdu, AreFree, AreSpare, AsksForLoad, IsDomainNamed, IsFree, IsLoadNamed, IsRequestOf, IsSound, IsSpare, IsWellLoad, Judges, KeepsAid, KeepsFree, KeepsSelected, LoadSession, LoadsAs, LoadsBy, RepresentsLoading, RepresentsState, Session, State, Volatile, admitted_as, channel_of, class_passed, domain_aid, keeps_load, load_slot, load_without_channel, message_joined, numbers, refusal_leaves, session_passed, with_offer_dropped, without_load}
+use Rattle.card_core.specs.Prelude.{Admitted, Apdu, AreFree, AreSpare, AsksForLoad, IsDomainNamed, IsFree, IsLoadNamed, IsRequestOf, IsSound, IsSpare, IsWellLoad, Judges, KeepsAid, KeepsFree, KeepsSelected, LoadSession, LoadsAs, RepresentsLoading, RepresentsState, State, domain_aid, load_slot, load_without_channel, numbers}
 use Rattle.apdu_core.specs.declared.reply.Status.{Status}
 use Rattle.card_types.proofs.Domains.{domain_aid_is, domain_named_is_used}
 use Rattle.card_types.proofs.EntryNames.{one_entry_slot}
@@ -12,7 +12,6 @@ use Rattle.load_session.proofs.Stays.{session_stays}
 use Rattle.load_session.specs.declared.load_write.LoadWrite.{LoadWrite}
 use Rattle.std.proofs.lemmas.List.Elements.{All-contains}
 use Rattle.load_session.specs.declared.session.LoadSession.{LoadSession as Kept}
-use Rattle.policy_machine.proofs.LoadsLeft.{loads_left}
 use Rattle.policy_machine.specs.declared.instruction.TheConstants.{INSTALL, LOAD}
 use Rattle.policy_machine.specs.declared.rule.Rule.{Rule}
 use Rattle.policy_rules.specs.declared.request.Request.{Request}
@@ -20,54 +19,17 @@ use Rattle.policy_rules.specs.declared.request.Request.TheVariants.{Select, More
 use Rattle.policy_slots.specs.declared.live.Live.{Live}
 use Rattle.policy_slots.specs.declared.live.LoadName.{LoadName}
 use Rattle.std.specs.Result.{IsErrAnd}
-use Rattle.policy_machine.proofs.Lawful.{IsLoading, LoadStays}
+use Rattle.policy_machine.proofs.Lawful.{IsLoading}
 
-module _ (page : ℕ → List ℕ) (tables : Tables) (loading : Option Kept) where
-  -- the load session of a channel has ended
-  pub ended_loading : (number : ℕ) (load : Option LoadSession) → RepresentsLoading page tables loading load → RepresentsLoading page tables loading (load_without_channel number load)
-  ended_loading number None is = tt
-  ended_loading number (Some load) is = by (load.channel == number)
-    where
-      by : (ends : Bool) → RepresentsLoading page tables loading (if ends then None else Some load)
-      by true = tt
-      by false = is
-
-  -- it has, unless the command goes on with it
-  passed_loading : (volatile : Volatile) (command : Apdu) → RepresentsLoading page tables loading volatile.load → RepresentsLoading page tables loading (session_passed volatile command).load
-  passed_loading volatile command is = by (command.ins == LOAD)
-    where
-      by : (goes_on : Bool) → RepresentsLoading page tables loading (if goes_on then volatile else without_load volatile (channel_of command.class)).load
-      by true = is
-      by false = ended_loading (channel_of command.class) volatile.load is
-
-  -- after secure messaging
-  pub admitted_loading : (state : State) (command : Apdu) (session : Option Session) (plain : List ℕ) → RepresentsLoading page tables loading state.volatile.load
-      → RepresentsLoading page tables loading (admitted_as state command session plain).at.volatile.load
-  admitted_loading state command None plain is = passed_loading (class_passed state.volatile command) command is
-  admitted_loading state command (Some session) plain is =
-      passed_loading (message_joined (class_passed state.volatile command) (channel_of command.class) (Some session)) command is
-
-  -- after a refusal
-  pub refusal_loading : (admitted : Admitted) (rule : Rule) → RepresentsLoading page tables loading admitted.at.volatile.load
-      → RepresentsLoading page tables loading (refusal_leaves admitted rule).load
-  refusal_loading admitted rule is = by (keeps_load rule)
-    where
-      left : Volatile
-      left = with_offer_dropped admitted.at.volatile admitted.channel
-
-      by : (keeps : Bool) → RepresentsLoading page tables loading (if keeps then left else without_load left admitted.channel).load
-      by true = is
-      by false = ended_loading admitted.channel left.load is
-
-  stays_loading : (before after : Volatile) → LoadStays before after → RepresentsLoading page tables loading before.load → RepresentsLoading page tables loading after.load
-  stays_loading before after (inl same) is = subst (RepresentsLoading page tables loading) (sym same) is
-  stays_loading before after (inr none) is = subst (RepresentsLoading page tables loading) (sym none) tt
-
-  -- a command that does not load
-  pub loads_same : (admitted : Admitted) (result : Result Status Rule) → (IsLoading admitted.command → ⊥) → RepresentsLoading page tables loading admitted.at.volatile.load
-      → LoadsBy page admitted tables loading result
-  loads_same admitted (Ok status) other is = λ done does. stays_loading admitted.at.volatile done.state.volatile (loads_left admitted done other does) is
-  loads_same admitted (Err rule) other is = is
+-- the load session of a channel has ended
+pub ended_loading : (page : ℕ → List ℕ) (tables : Tables) (loading : Option Kept) (number : ℕ) (load : Option LoadSession) → RepresentsLoading page tables loading load
+    → RepresentsLoading page tables loading (load_without_channel number load)
+ended_loading page tables loading number None is = tt
+ended_loading page tables loading number (Some load) is = by (load.channel == number)
+  where
+    by : (ends : Bool) → RepresentsLoading page tables loading (if ends then None else Some load)
+    by true = tt
+    by false = is
 
 -- an instruction other than LOAD and INSTALL
 pub loads_not : (command : Apdu) (byte : ℕ) → command.ins ≡ byte → byte ≢ LOAD → byte ≢ INSTALL → IsLoading command → ⊥

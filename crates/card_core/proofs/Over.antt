@@ -1,24 +1,23 @@
 -- The states that a card on a device stands for.
-use Rattle.card_core.specs.Prelude.{AreCards, AreSpare, CardOver, CardRepresents, HasPages, Keeps, LeavesOnly, Registry, Reopens, Represents, RepresentsSome, State, first_live, load_page, loaded, powered_on, store_page, stored}
+use Rattle.card_core.specs.Prelude.{AreCards, AreSpare, CardOver, CardRepresents, HasPages, Keeps, LeavesOnly, Registry, Reopens, Represents, RepresentsSome, State, first_live, kept_of, load_page, loaded, no_sessions, powered_on, store_page, stored}
 use Rattle.load_session.specs.declared.load_write.LoadWrite.{LoadWrite}
-use Rattle.load_session.specs.declared.session.LoadSession.{LoadSession}
-use Rattle.std.proofs.Common.{◌≡◌, ◌⊎◌, ℕ, List, Option, replicate, true, refl, ap, sym, subst, ◌∙◌}
+use Rattle.std.proofs.Common.{◌≡◌, ◌⊎◌, ℕ, List, replicate, true, refl, ap, sym, subst, ◌∙◌}
 use Rattle.card_types.specs.declared.tables.Tables.{Tables}
 use Rattle.flash_core.specs.declared.flash.Flash.{Ghosts as Flash}
-use Rattle.policy_slots.specs.declared.live.Live.{Live}
+use Rattle.policy_machine.proofs.KeepsSound.{starts_sound}
 use Rattle.rec_store.proofs.OneRegistry.{said_once}
 use Rattle.rec_store.proofs.Reopening.{has_pages, spare_same}
 use Rattle.card_core.proofs.Cards.{in_order}
-use Rattle.card_core.proofs.PoweredOn.{four_nothing, powered_on_stands}
+use Rattle.card_core.proofs.PoweredOn.{powered_on_shows}
 use Rattle.std.proofs.lemmas.List.{length-replicate}
-use Rattle.card_core.specs.declared.channel_session.ChannelSession.{ChannelSession}
+use Rattle.card_core.specs.declared.channels.Channels.{Channels}
 
-module _ {F : Type 0} (device : Flash F) (live : Live) (all : List ChannelSession) (loading : Option LoadSession) (first : live ≡ first_live) (nothing : all ≡ four_nothing) where
+module _ {F : Type 0} (device : Flash F) (channels : Channels) (first : channels.live ≡ first_live) (nothing : channels.sessions ≡ no_sessions) where
   -- a card that was just powered on, over the tables that were read
   pub mounted_stands : (old new : F) (tables : Tables) → AreCards tables
       → (device.tells → (registry : Registry) × Reopens (device.pages old) registry × Represents (load_page (device.pages new)) tables registry × Keeps device new registry)
       → (registry : Registry) × (device.tells → Reopens (device.pages old) registry)
-      × CardRepresents device (record { flash = new; tables = tables; volatile = live; held = all; loading = loading; live = true }) (powered_on registry)
+      × CardRepresents device (record { flash = new; tables = tables; channels = channels; live = true }) (powered_on registry)
   mounted_stands old new tables cards read =
       let page : ℕ → List ℕ = load_page (device.pages new) in
       let is = cards page (has_pages (stored (device.pages new))) in
@@ -29,15 +28,15 @@ module _ {F : Type 0} (device : Flash F) (live : Live) (all : List ChannelSessio
           live = refl;
           page = page;
           whole = has_pages (stored (device.pages new));
-          on = powered_on_stands page tables live all is.said is.of.layout is.of.says is.of.well first nothing;
-          loading = tt;
+          shows = powered_on_shows page tables channels is.said is.of.layout is.of.says first nothing;
+          sound = starts_sound is.said is.of.well is.of.says.ascending;
           load = λ told. refl;
           keeps = λ told. subst (Keeps device new) (same told) (read told).3;
         },
       )
 
   -- it shows some state
-  pub powered_some : (tables : Tables) → AreCards tables → RepresentsSome (record { tables = tables; live = live; held = all }) loading
+  pub powered_some : (tables : Tables) → AreCards tables → RepresentsSome (kept_of tables channels)
   powered_some tables cards =
       let page : ℕ → List ℕ = λ n. replicate 256 0 in
       let whole : HasPages page = λ n. length-replicate {A = ℕ} 256 0 in
@@ -46,18 +45,19 @@ module _ {F : Type 0} (device : Flash F) (live : Live) (all : List ChannelSessio
         page = page;
         whole = whole;
         state = powered_on is.said;
-        shows = record { on = powered_on_stands page tables live all is.said is.of.layout is.of.says is.of.well first nothing; loading = tt };
+        shows = powered_on_shows page tables channels is.said is.of.layout is.of.says first nothing;
+        sound = starts_sound is.said is.of.well is.of.says.ascending;
       }
 
   -- a card that was reset shows the state after power on
   pub reset_stands : (card : CardOver F) (state : State) → AreCards card.tables → CardRepresents device card state
-      → CardRepresents device (record { flash = card.flash; tables = card.tables; volatile = live; held = all; loading = loading; live = card.live }) (powered_on state.registry)
+      → CardRepresents device (record { flash = card.flash; tables = card.tables; channels = channels; live = card.live }) (powered_on state.registry)
   reset_stands card state cards stands = record {
     live = stands.live;
     page = stands.page;
     whole = stands.whole;
-    on = powered_on_stands stands.page card.tables live all state.registry (in_order card.tables cards).layout stands.on.shows.says.registry stands.on.sound.well first nothing;
-    loading = tt;
+    shows = powered_on_shows stands.page card.tables channels state.registry (in_order card.tables cards).layout stands.shows.says.registry first nothing;
+    sound = starts_sound state.registry stands.sound.well stands.shows.says.registry.ascending;
     load = stands.load;
     keeps = stands.keeps;
   }
@@ -67,8 +67,8 @@ pub registry_told : {F : Type 0} (device : Flash F) (card : CardOver F) (state o
     → CardRepresents device card state → CardRepresents device card other → device.tells → state.registry ≡ other.registry
 registry_told device card state other stands also told =
     said_once (load_page (device.pages card.flash)) card.tables state.registry other.registry
-    (subst (λ page. Represents page card.tables state.registry) (sym (stands.load told)) stands.on.shows.says.registry)
-    (subst (λ page. Represents page card.tables other.registry) (sym (also.load told)) also.on.shows.says.registry)
+    (subst (λ page. Represents page card.tables state.registry) (sym (stands.load told)) stands.shows.says.registry)
+    (subst (λ page. Represents page card.tables other.registry) (sym (also.load told)) also.shows.says.registry)
 
 -- between two calls on the records of a card
 module _ {F : Type 0} (device : Flash F) (card : CardOver F) (state : State)

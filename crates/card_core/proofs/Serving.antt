@@ -3,7 +3,7 @@ use Rattle.std.proofs.Common.{◌≡◌, ◌⊎◌, ℕ, List, [], ◌∷◌, Bo
 use Rattle.std.specs.Prelude.{◌↔◌, All, Contains, IsTrue, MatchOption}
 use Rattle.std.proofs.lemmas.Bool.{true≢false}
 use Rattle.std.proofs.lemmas.List.Elements.{All-contains, All-from_recursion}
-use Rattle.card_core.specs.Prelude.{Admits, Admitted, Apdu, CarriesOut, GeneralFails, GeneralRefusalLeaves, Gives, InSession, IsAuthentic, IsBuilt, IsFirst, IsKnown, IsPlainGetData, IsPlainManagement, IsSound, Kept, KeptRepresents, Of, Opens, RepresentsLoading, Serves, Session, Short, State, Volatile, accepting, admitted_as, class_of, command_rules, field_of, general_rules, instructions_of, is_protected, is_secure, managing, protects, refusal_leaves, rule_of, sent, session_for, status_bytes, status_of, status_word}
+use Rattle.card_core.specs.Prelude.{Admits, Admitted, Apdu, CarriesOut, GeneralFails, GeneralRefusalLeaves, Gives, InSession, IsAuthentic, IsBuilt, IsFirst, IsKnown, IsPlainGetData, IsPlainManagement, IsSound, Kept, KeptRepresents, Of, Opens, Serves, Session, Short, State, Volatile, accepting, admitted_as, class_of, command_rules, field_of, general_rules, instructions_of, is_protected, is_secure, managing, protects, refusal_leaves, rule_of, sent, session_for, status_bytes, status_of, status_word}
 use Rattle.apdu_core.specs.declared.reply.Status.{Status}
 use Rattle.card_types.proofs.Members.{contains_cases}
 use Rattle.card_types.specs.declared.card_life.CardLife.TheVariants.{Terminated}
@@ -18,32 +18,28 @@ use Rattle.policy_machine.specs.declared.rule.Rule.{Rule}
 use Rattle.policy_machine.specs.declared.rule.Rule.TheVariants.{G}
 use Rattle.policy_machine.specs.declared.rule.RuleG.{RuleG}
 use Rattle.policy_machine.specs.declared.rule.RuleG.TheVariants.{G5, G6, G7, G8}
-use Rattle.load_session.specs.declared.session.LoadSession.{LoadSession}
 
 -- a general rule bars the bytes
-pub rejected : (page : ℕ → List ℕ) (card : Kept) (loading : Option LoadSession) (state : State) (bytes reply : List ℕ) (rule : RuleG) (left : Volatile) → IsSound state
+pub rejected : (page : ℕ → List ℕ) (card : Kept) (state : State) (bytes reply : List ℕ) (rule : RuleG) (left : Volatile) → IsSound state
     → IsFirst (GeneralFails state bytes) general_rules (Some rule) → GeneralRefusalLeaves state bytes rule left
-    → KeptRepresents page card (record { registry = state.registry; volatile = left }) → RepresentsLoading page card.tables loading left.load → reply ≡ status_bytes (status_of (G rule))
-    → Serves page state bytes card loading reply (Some (G rule))
-rejected page card loading state bytes reply rule left sound first leaves shows loads is =
+    → KeptRepresents page card (record { registry = state.registry; volatile = left }) → reply ≡ status_bytes (status_of (G rule))
+    → Serves page state bytes card reply (Some (G rule))
+rejected page card state bytes reply rule left sound first leaves shows is =
     let step = inl (record {
       rule = rule;
       left = left;
       first = first;
       leaves = leaves;
       outcome_is = ap (λ (r : List ℕ). record { state = record { registry = state.registry; volatile = left }; reply = r; rule = Some (G rule) }) is;
-    }) in (
-      record { registry = state.registry; volatile = left },
-      record { on = record { shows = shows; sound = steps_keep_sound state bytes _ sound step }; loading = loads },
-      step,
-    )
+    }) in
+    (record { registry = state.registry; volatile = left }, shows, steps_keep_sound state bytes _ sound step, step)
 
 -- a command that was carried out, or refused by a rule of its own
-pub carried_out : (page : ℕ → List ℕ) (state : State) (bytes : List ℕ) (command : Apdu) (session : Option Session) (plain : List ℕ) (card : Kept) (loading : Option LoadSession) (body reply : List ℕ)
+pub carried_out : (page : ℕ → List ℕ) (state : State) (bytes : List ℕ) (command : Apdu) (session : Option Session) (plain : List ℕ) (card : Kept) (body reply : List ℕ)
     (result : Result Status Rule) → IsSound state → Admits state bytes (admitted_as state command session plain)
-    → CarriesOut page (admitted_as state command session plain) card loading body result → reply ≡ sent session body (status_word result)
-    → Serves page state bytes card loading reply (rule_of result)
-carried_out page state bytes command session plain card loading body reply (Ok status) sound admits ((done, shows, judges, does, body_is, word), loads) is =
+    → CarriesOut page (admitted_as state command session plain) card body result → reply ≡ sent session body (status_word result)
+    → Serves page state bytes card reply (rule_of result)
+carried_out page state bytes command session plain card body reply (Ok status) sound admits (done, shows, judges, does, body_is, word) is =
     let step = inr (inr (record {
       admitted = admitted_as state command session plain;
       done = done;
@@ -52,8 +48,8 @@ carried_out page state bytes command session plain card loading body reply (Ok s
       does = does;
       outcome_is = ap (λ (r : List ℕ). record { state = done.state; reply = r; rule = None }) (is ∙ (λ i. sent session (body_is i) (word i)));
     })) in
-    (done.state, record { on = record { shows = shows; sound = steps_keep_sound state bytes _ sound step }; loading = loads }, step)
-carried_out page state bytes command session plain card loading body reply (Err rule) sound admits ((shows, judges, empty), loads) is =
+    (done.state, shows, steps_keep_sound state bytes _ sound step, step)
+carried_out page state bytes command session plain card body reply (Err rule) sound admits (shows, judges, empty) is =
     let admitted : Admitted = admitted_as state command session plain in
     let left = refusal_leaves (admitted_as state command session plain) rule in
     let step = inr (inl (record {
@@ -63,11 +59,8 @@ carried_out page state bytes command session plain card loading body reply (Err 
       judges = judges;
       outcome_is = ap (λ (r : List ℕ). record { state = record { registry = state.registry; volatile = left }; reply = r; rule = Some rule })
           (is ∙ ap (λ (b : List ℕ). sent session b (status_of rule)) empty);
-    })) in (
-      record { registry = state.registry; volatile = left },
-      record { on = record { shows = shows; sound = steps_keep_sound state bytes _ sound step }; loading = loads },
-      step,
-    )
+    })) in
+    (record { registry = state.registry; volatile = left }, shows, steps_keep_sound state bytes _ sound step, step)
 
 -- what a class takes is built
 is_built_all : (class : Class) → All IsBuilt (instructions_of class)

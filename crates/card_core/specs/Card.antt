@@ -6,27 +6,23 @@ use Rattle.card_types.specs.Registry.{Registry}
 use Rattle.card_types.specs.declared.tables.Tables.{Tables}
 use Rattle.flash_core.specs.declared.flash.Flash.{Ghosts as Flash}
 use Rattle.page_journal.specs.Moments.{LeavesOnly}
+use Rattle.policy_machine.specs.Sound.{IsSound}
 use Rattle.policy_machine.specs.State.{State}
 use Rattle.policy_machine.specs.Step.{Outcome}
 use Rattle.policy_machine.specs.declared.rule.Rule.{Rule}
-use Rattle.policy_slots.specs.declared.live.Live.{Live}
 use Rattle.rec_store.specs.Reopens.{Keeps, ReopensEither, load_page}
-use Rattle.card_core.specs.Kept.{Kept, RepresentsSoundly}
-use Rattle.card_core.specs.Loading.{RepresentsLoading}
-use Rattle.load_session.specs.declared.session.LoadSession.{LoadSession}
-use Rattle.card_core.specs.declared.channel_session.ChannelSession.{ChannelSession}
+use Rattle.card_core.specs.Kept.{Kept, KeptRepresents, kept_of}
+use Rattle.card_core.specs.declared.channels.Channels.{Channels}
 
--- the device, the tables, the channels with what they hold, what is kept of the load session, and whether no call on the device has failed
+-- the device, the tables, what is kept of the channels, and whether no call on the device has failed
 pub record CardOver (F : Type 0) : Type 0 where
   pub flash : F
   pub tables : Tables
-  pub volatile : Live
-  pub held : List ChannelSession
-  pub loading : Option LoadSession
+  pub channels : Channels
   pub live : Bool
 
 abbrev pub kept : {F : Type 0} → CardOver F → Kept
-kept card = record { tables = card.tables; live = card.volatile; held = card.held }
+kept card = kept_of card.tables card.channels
 
 -- The card stands for this state: it goes on, what it keeps shows the state, and power lost leaves its registry. Where the
 -- device tells its pages, the load pages are its own.
@@ -34,8 +30,8 @@ pub record CardRepresents {F : Type 0} (device : Flash F) (card : CardOver F) (s
   pub live : card.live ≡ true
   pub page : ℕ → List ℕ
   pub whole : HasPages page
-  pub on : RepresentsSoundly page (kept card) state
-  pub loading : RepresentsLoading page card.tables card.loading state.volatile.load
+  pub shows : KeptRepresents page (kept card) state
+  pub sound : IsSound state
   pub load : device.tells → load_page (device.pages card.flash) ≡ page
   pub keeps : device.tells → Keeps device card.flash state.registry
 

@@ -1,8 +1,11 @@
 -- What a card keeps, and the states of the policy machine that it shows.
-use Rattle.std.specs.Prelude.{ℕ, ◌<◌, List, Bool, true, false, slice_index_or, ◌≡◌, length}
+use Rattle.std.specs.Prelude.{ℕ, ◌<◌, List, Bool, true, false, Option, slice_index_or, slice_set, ◌≡◌, length}
 use Rattle.card_check.specs.IsCard.{HasPages, IsCard}
+use Rattle.card_core.specs.Loading.{RepresentsLoading}
 use Rattle.card_core.specs.declared.channel_session.ChannelSession.{ChannelSession}
+use Rattle.card_core.specs.declared.channels.Channels.{Channels}
 use Rattle.card_types.specs.declared.tables.Tables.{Tables}
+use Rattle.load_session.specs.declared.session.LoadSession.{LoadSession}
 use Rattle.policy_machine.specs.Admission.{Admitted}
 use Rattle.policy_machine.specs.Sound.{IsSound}
 use Rattle.policy_machine.specs.State.{Nothing, Offered, Secured, SecureChannel, Volatile, channel_at, secure_channel_of, State}
@@ -54,14 +57,24 @@ abbrev pub held_passed : Bool → ChannelSession → ChannelSession
 held_passed true held = held
 held_passed false held = without_offer_held held
 
--- the tables of a card, its channels, and what these hold
+-- the tables of a card, and what it keeps of its channels: what is selected there, what each holds, and the load session on one
 pub record Kept : Type 0 where
   pub tables : Tables
   pub live : Live
-  pub held : List ChannelSession
+  pub sessions : List ChannelSession
+  pub load : Option LoadSession
 
-abbrev pub kept_of : Tables → Live → List ChannelSession → Kept
-kept_of tables live held = record { tables = tables; live = live; held = held }
+-- the load pages that are to be written are none of it
+abbrev pub kept_of : Tables → Channels → Kept
+kept_of tables channels = record { tables = tables; live = channels.live; sessions = channels.sessions; load = channels.loading.session }
+
+-- with this in the place of what the rules see
+abbrev pub kept_live : Kept → Live → Kept
+kept_live card live = record { tables = card.tables; live = live; sessions = card.sessions; load = card.load }
+
+-- with this, and a channel holds something else
+abbrev pub kept_set : Kept → Live → ℕ → ChannelSession → Kept
+kept_set card live number now = record { tables = card.tables; live = live; sessions = slice_set card.sessions number now; load = card.load }
 
 -- whatever stands in the load pages, the tables are a card's
 abbrev pub AreCards : Tables → Type 0
@@ -70,15 +83,18 @@ AreCards tables = (page : ℕ → List ℕ) → HasPages page → IsCard page ta
 -- what is kept shows this state, over these load pages
 pub record KeptRepresents (page : ℕ → List ℕ) (card : Kept) (state : State) : Type 0 where
   pub says : RepresentsState page card.tables card.live state
-  pub holds : RepresentsChannels card.held state.volatile
+  pub four : length card.sessions ≡ CHANNELS
+  pub holds : RepresentsChannels card.sessions state.volatile
+  pub loading : RepresentsLoading page card.tables card.load state.volatile.load
 
--- What is kept shows this state, and the state is sound.
-pub record RepresentsSoundly (page : ℕ → List ℕ) (card : Kept) (state : State) : Type 0 where
+-- it shows some state, which is sound
+pub record RepresentsSome (card : Kept) : Type 0 where
+  pub page : ℕ → List ℕ
+  pub whole : HasPages page
+  pub state : State
   pub shows : KeptRepresents page card state
   pub sound : IsSound state
 
--- `So` holds of each command that is judged by a sound state which tables and channels show, whatever these hold.
-abbrev pub ForShown : Tables → Live → ((ℕ → List ℕ) → List ChannelSession → Admitted → Type 0) → Type 0
-ForShown tables live So =
-    (page : ℕ → List ℕ) (all : List ChannelSession) (admitted : Admitted) → RepresentsSoundly page (kept_of tables live all) admitted.at
-    → length all ≡ CHANNELS → So page all admitted
+-- `So` holds of each command that is judged by a sound state which this shows.
+abbrev pub ForKept : Kept → ((ℕ → List ℕ) → Admitted → Type 0) → Type 0
+ForKept card So = (page : ℕ → List ℕ) (admitted : Admitted) → HasPages page → KeptRepresents page card admitted.at → IsSound admitted.at → So page admitted

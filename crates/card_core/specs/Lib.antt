@@ -1,5 +1,6 @@
 pub mod AesKinds
 pub mod Card
+pub mod ChannelEnds
 pub mod Commits
 pub mod ConfirmedForms
 pub mod Confirms

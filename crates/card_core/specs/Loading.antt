@@ -1,7 +1,6 @@
 -- What a card keeps of the load session, and the load session that it stands for (GlobalPlatform Card Specification 2.3.1, 9.3.5
 -- and 11.6).
 use Rattle.std.specs.Prelude.{◌≡◌, ℕ, List, [], All, true, Option, None, Some}
-use Rattle.card_check.specs.IsCard.{HasPages}
 use Rattle.page_journal.specs.Pages.{IsLoadPage}
 use Rattle.card_types.specs.declared.tables.Tables.{Tables}
 use Rattle.flash_core.specs.declared.flash.Flash.{Ghosts as Flash}
@@ -9,11 +8,9 @@ use Rattle.load_session.specs.Loaded.{IsWhole, loaded, numbers}
 use Rattle.load_session.specs.Session.{RepresentsLoad}
 use Rattle.load_session.specs.declared.load_write.LoadWrite.{LoadWrite}
 use Rattle.load_session.specs.declared.session.LoadSession.{LoadSession}
-use Rattle.policy_machine.specs.State.{State}
 use Rattle.policy_machine.specs.State as volatile
 use Rattle.rec_store.specs.Contents.{Contents}
 use Rattle.rec_store.specs.Reopens.{AreSpare, IsFree}
-use Rattle.card_core.specs.Kept.{Kept, RepresentsSoundly}
 use Rattle.card_core.specs.declared.loading.Loading.{Loading}
 
 -- What is kept stands for the load session, over these load pages. Where there is none, it may be of one that has ended.
@@ -21,18 +18,6 @@ abbrev pub RepresentsLoading : (ℕ → List ℕ) → Tables → Option LoadSess
 RepresentsLoading page tables kept None = Unit {0}
 RepresentsLoading page tables None (Some load) = ⊥
 RepresentsLoading page tables (Some kept) (Some load) = RepresentsLoad page tables kept load
-
--- what is kept beside tables and channels does, and these show the state
-pub record RepresentsAll (page : ℕ → List ℕ) (card : Kept) (kept : Option LoadSession) (state : State) : Type 0 where
-  pub on : RepresentsSoundly page card state
-  pub loading : RepresentsLoading page card.tables kept state.volatile.load
-
--- it does so for some state
-pub record RepresentsSome (card : Kept) (kept : Option LoadSession) : Type 0 where
-  pub page : ℕ → List ℕ
-  pub whole : HasPages page
-  pub state : State
-  pub shows : RepresentsAll page card kept state
 
 -- load pages with those that are to be written
 abbrev pub with_due : (ℕ → List ℕ) → Loading → ℕ → List ℕ

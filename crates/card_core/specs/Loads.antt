@@ -14,12 +14,12 @@ use Rattle.policy_machine.specs.LoadBlocks.{Block}
 use Rattle.policy_machine.specs.declared.load.RuleLO.{RuleLO}
 use Rattle.policy_machine.specs.declared.load.RuleLO.TheVariants.{LO3, LO4, LO5, LO6}
 use Rattle.policy_machine.specs.Sound.{IsSound}
-use Rattle.policy_machine.specs.State.{Effect, State}
+use Rattle.policy_machine.specs.State.{Effect}
 use Rattle.policy_machine.specs.declared.rule.Rule.{Rule}
 use Rattle.content_rules.specs.LoadFound.{IsForLoad}
 use Rattle.content_rules.specs.LoadRequests.{IsLoadOf}
 use Rattle.content_rules.specs.declared.load.LoadRequest.{LoadRequest}
-use Rattle.policy_slots.specs.StateShown.{ActsIn, ForActingLive, RepresentsState}
+use Rattle.policy_slots.specs.StateShown.{ActsIn, RepresentsState}
 use Rattle.policy_slots.specs.declared.live.Live.{Live}
 use Rattle.policy_slots.specs.declared.live.LoadName.{LoadName}
 use Rattle.card_core.specs.Loading.{RepresentsLoading}
@@ -39,20 +39,6 @@ pub record IsLoaded (admitted : Admitted) (page : ℕ → List ℕ) (tables : Ta
 abbrev pub LoadsAs : Admitted → (ℕ → List ℕ) → Tables → Live → Option LoadSession → List ℕ → Result Status Rule → Type 0
 LoadsAs admitted page tables live loading body (Ok status) = IsLoaded admitted page tables live loading body status
 LoadsAs admitted page tables live loading body (Err rule) = Judges admitted (Some rule) × (body ≡ [])
-
--- what is kept shows some state, as far as the rules and loading look
-pub record HoldsLoad (tables : Tables) (live : Live) (loading : Option LoadSession) : Type 0 where
-  pub page : ℕ → List ℕ
-  pub whole : HasPages page
-  pub state : State
-  pub sound : IsSound state
-  pub says : RepresentsState page tables live state
-  pub kept : RepresentsLoading page tables loading state.volatile.load
-
--- `So` holds of each command that is judged by a sound state of which this is kept, and acts for the domain in a slot.
-abbrev pub ForLoading : Tables → Live → Option LoadSession → ℕ → ((ℕ → List ℕ) → Admitted → Type 0) → Type 0
-ForLoading tables live loading domain So =
-    ForActingLive tables live domain (λ page admitted. HasPages page → IsSound admitted.at → RepresentsLoading page tables loading admitted.at.volatile.load → So page admitted)
 
 -- the rule by which a block is refused that is not taken
 abbrev pub block_rule : BlockStop → RuleLO

@@ -1,51 +1,44 @@
 -- For the code inside. What a command passes before the rules of its own: those on the life cycle state of the card, and on secure
 -- messaging.
-use Rattle.std.specs.Prelude.{◌≡◌, ℕ, List, Option, None, Some, length, slice_index_or, take}
+use Rattle.std.specs.Prelude.{◌≡◌, ℕ, List, Option, None, Some, slice_index_or, take}
 use Rattle.apdu_core.specs.Apdu.{Apdu, Short, apdu_of}
 use Rattle.apdu_core.specs.Reply.{status_bytes}
-use Rattle.card_types.specs.declared.tables.Tables.{Tables}
-use Rattle.load_session.specs.declared.session.LoadSession.{LoadSession}
 use Rattle.policy_machine.specs.Admission.{Admits, GeneralFails, admitted_as, command_rules}
 use Rattle.policy_machine.specs.Classes.{channel_of}
 use Rattle.policy_machine.specs.Refusal.{IsFirst}
 use Rattle.policy_machine.specs.Rules.{status_of}
+use Rattle.policy_machine.specs.Sound.{IsSound}
 use Rattle.policy_machine.specs.State.{State, Secured}
-use Rattle.policy_machine.specs.declared.channels.TheConstants.{CHANNELS}
 use Rattle.policy_machine.specs.declared.rule.Rule.TheVariants.{G}
 use Rattle.policy_machine.specs.declared.rule.RuleG.{RuleG}
 use Rattle.policy_slots.specs.LiveEnds.{live_without_place}
 use Rattle.policy_slots.specs.declared.live.Live.{Live}
 use Rattle.scp03_card.specs.Session.{Session}
-use Rattle.card_core.specs.Kept.{Kept, RepresentsSoundly, kept_of, RepresentsSecureChannel, held_on}
-use Rattle.card_core.specs.Loading.{RepresentsLoading}
+use Rattle.card_core.specs.Kept.{Kept, KeptRepresents, RepresentsSecureChannel, held_on}
 use Rattle.card_core.specs.Serves.{Serves}
 use Rattle.card_core.specs.declared.admit.Received.{Received}
 use Rattle.card_core.specs.declared.channel_session.ChannelSession.{ChannelSession}
 
 -- The command has come to a card that kept this, and the rules on its class, channel and instruction let it pass. Its channel has
 -- lost its place in a listing since.
-pub record HasCome (page : ℕ → List ℕ) (tables : Tables) (before : Live) (all : List ChannelSession) (state : State) (bytes : List ℕ)
-    (received : Received) (live : Live) (held : ChannelSession) : Type 0 where
-  pub stands : RepresentsSoundly page (kept_of tables before all) state
-  pub four : length all ≡ CHANNELS
+pub record HasCome (page : ℕ → List ℕ) (card : Kept) (state : State) (bytes : List ℕ) (received : Received) (live : Live) (held : ChannelSession) : Type 0 where
+  pub shows : KeptRepresents page card state
+  pub sound : IsSound state
   pub front : IsFirst (GeneralFails state bytes) command_rules None
   pub short : Short (apdu_of received.command) bytes
   pub channel : received.channel ≡ channel_of received.command.class
-  pub selected : slice_index_or before.selected received.channel None ≡ Some received.selected
-  pub forgotten : live ≡ live_without_place before received.channel
-  pub holds : held ≡ held_on all received.channel
+  pub selected : slice_index_or card.live.selected received.channel None ≡ Some received.selected
+  pub forgotten : live ≡ live_without_place card.live received.channel
+  pub holds : held ≡ held_on card.sessions received.channel
 
 -- `So` holds of each state that a card showed to which the command has come.
-abbrev pub ForCome : Received → Live → ChannelSession → ((ℕ → List ℕ) → Tables → List ChannelSession → State → List ℕ → Type 0) → Type 0
+abbrev pub ForCome : Received → Live → ChannelSession → ((ℕ → List ℕ) → Kept → State → List ℕ → Type 0) → Type 0
 ForCome received live held So =
-    (page : ℕ → List ℕ) (tables : Tables) (before : Live) (all : List ChannelSession) (state : State) (bytes : List ℕ)
-    → HasCome page tables before all state bytes received live held → So page tables all state bytes
+    (page : ℕ → List ℕ) (card : Kept) (state : State) (bytes : List ℕ) → HasCome page card state bytes received live held → So page card state bytes
 
--- a general rule bars the bytes, whatever is kept of the load session
+-- a general rule bars the bytes
 abbrev pub Bars : (ℕ → List ℕ) → Kept → State → List ℕ → RuleG → Type 0
-Bars page card state bytes rule =
-    (loading : Option LoadSession) (reply : List ℕ) → RepresentsLoading page card.tables loading state.volatile.load → reply ≡ status_bytes (status_of (G rule))
-    → Serves page state bytes card loading reply (Some (G rule))
+Bars page card state bytes rule = (reply : List ℕ) → reply ≡ status_bytes (status_of (G rule)) → Serves page state bytes card reply (Some (G rule))
 
 -- the data field in plain: as it came, or in the front of what the command was opened to
 abbrev pub plain_of : Apdu → Option ℕ → List ℕ → List ℕ
@@ -63,5 +56,6 @@ IsOpenedIn (Some count) held (Some session) = RepresentsSecureChannel held (Secu
 pub record Passes (page : ℕ → List ℕ) (card : Kept) (state : State) (bytes : List ℕ) (command : Apdu) (held : ChannelSession) (opened : Option ℕ) (plain : List ℕ) : Type 0 where
   pub session : Option Session
   pub admits : Admits state bytes (admitted_as state command session (plain_of command opened plain))
-  pub stands : RepresentsSoundly page card (admitted_as state command session (plain_of command opened plain)).at
+  pub shows : KeptRepresents page card (admitted_as state command session (plain_of command opened plain)).at
+  pub sound : IsSound (admitted_as state command session (plain_of command opened plain)).at
   pub opened_in : IsOpenedIn opened held session

@@ -7,18 +7,19 @@ pub use Rattle.bertlv.specs.Tag.{IsTag, TagGoesOn}
 pub use Rattle.card_check.specs.IsCard.{HasPages, IsCard, IsInLoadPages, pages_named}
 pub use Rattle.card_check.specs.LoadPages.{HasPageNumbers, all_pages}
 pub use Rattle.card_core.specs.Card.{Answers, CardOver, CardRepresents, LeavesEither, kept}
+pub use Rattle.card_core.specs.ChannelEnds.{channels_refused, channels_with, live_passed, live_refused, no_sessions}
 pub use Rattle.card_core.specs.Commits.{MayCommit}
 pub use Rattle.card_core.specs.ConfirmedForms.{BecomesAsAsked, IsOfForm, of_form}
 pub use Rattle.card_core.specs.Confirms.{AnswersFor, Confirms, HasChanged, IsAnsweredBy, IsReceiptIn, IsUniqueIn, IsValueIn, KeepsConfirmer, KeepsNumber, KeepsReceipts, aids_in, leaves}
 pub use Rattle.card_core.specs.Deletes.{LeavesOthers, LeavesOwned, RemovesLoaded}
 pub use Rattle.card_core.specs.Domains.{ForEntry, is_domain_held, is_domain_in}
 pub use Rattle.card_core.specs.Installs.{slot_made}
-pub use Rattle.card_core.specs.Kept.{AreCards, ForShown, IsInSession, IsOffered, Kept, KeptRepresents, RepresentsChannels, RepresentsSecureChannel, RepresentsSoundly, held_on, held_passed, kept_of, without_offer_held}
+pub use Rattle.card_core.specs.Kept.{AreCards, ForKept, IsInSession, IsOffered, Kept, KeptRepresents, RepresentsChannels, RepresentsSecureChannel, RepresentsSome, held_on, held_passed, kept_live, kept_of, kept_set, without_offer_held}
 pub use Rattle.card_core.specs.Lists.{IsSameButPlace, IsShown, Lists}
 pub use Rattle.card_core.specs.LoadRead.{IsLoadRead}
 pub use Rattle.card_core.specs.LoadedFile.{AddsLoaded}
-pub use Rattle.card_core.specs.Loading.{AreFree, RepresentsAll, RepresentsLoading, RepresentsSome, with_due}
-pub use Rattle.card_core.specs.Loads.{ForBlock, ForLoading, HoldsLoad, IsForBlock, IsLoaded, LoadsAs, block_in, block_rule}
+pub use Rattle.card_core.specs.Loading.{AreFree, RepresentsLoading, with_due}
+pub use Rattle.card_core.specs.Loads.{ForBlock, IsForBlock, IsLoaded, LoadsAs, block_in, block_rule}
 pub use Rattle.card_core.specs.Manages.{IsChanging, IsManaged, KeepsAid, KeepsAids, KeepsFree, KeepsSelected, Manages}
 pub use Rattle.card_core.specs.ObjectsPut.{IsSlotFor, PutsObject, object_with}
 pub use Rattle.card_core.specs.Offers.{AnswersAs, HoldsFor, IsMade, OffersAs, secure_channel_for}
@@ -26,7 +27,7 @@ pub use Rattle.card_core.specs.Passes.{Bars, ForCome, HasCome, IsOpenedIn, Passe
 pub use Rattle.card_core.specs.PowerOn.{PowerFails}
 pub use Rattle.card_core.specs.Ready.{IsReady}
 pub use Rattle.card_core.specs.Secured.{OpensAs}
-pub use Rattle.card_core.specs.Serves.{AsksForLoad, CarriesOn, CarriesOut, CarriesOutBut, CarriesOutLoading, ForAsked, ForPassed, IsAsked, IsPassed, IsPassedOver, IsTerminatedFor, LoadsBy, Serves, ServesLoading, live_passed, live_refused, refused_at, rule_of, status_word}
+pub use Rattle.card_core.specs.Serves.{AsksForLoad, CarriesOut, CarriesOutBut, IsAsked, IsPassed, IsTerminatedFor, Serves, refused_at, rule_of, status_word}
 pub use Rattle.card_core.specs.ShownParts.{EndsAt, IsPart}
 pub use Rattle.card_core.specs.StatusChanges.{MakesChange, SaysChange, StagesOthers}
 pub use Rattle.card_types.specs.Aid.{IsAid, same_aid}

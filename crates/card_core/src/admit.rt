@@ -27,7 +27,7 @@ fn is_not_for(tables: &Tables, slot: u8, ins: u8) -> bool
 }
 
 /// Whether the card is terminated, which answers GET DATA in plain alone.
-pub fn is_over(card_life: CardLife, class: Class, ins: u8) -> bool
+pub fn is_terminated_for(card_life: CardLife, class: Class, ins: u8) -> bool
     ensures { IsTrue result ↔ IsTerminatedFor card_life class ins }
 {
     card_life == CardLife::Terminated && (ins != GET_DATA || class == Class::Secure)

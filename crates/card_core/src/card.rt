@@ -1,12 +1,10 @@
 //! A card (GlobalPlatform Card Specification 2.3.1, chapter 6).
 
-ghost use Rattle.std.specs.Prelude.{◌≡◌, ◌≤◌, List, [], ◌∷◌, false, true, None, IfOk, IfErr, IsSome, OnErr, OnOk};
+ghost use Rattle.std.specs.Prelude.{◌≡◌, ◌≤◌, List, false, true, None, IfOk, IfErr, IsSome, OnErr, OnOk};
 ghost use Rattle.card_core.specs.Prelude.{Always, Answers, AreCards, CardRepresents, Changes, CountsReceipts, HasCause, IsAtRest, IsInOrder, IsUnwritten, KeepsTrees, LeavesEither, LeavesOnly, MayCommit, OpensInSession, Outcome, PowerFails, Registry, Reopens, ReopensAsOne, State, Step, powered_on, status_bytes};
-ghost use Rattle.card_core.specs.declared.channel_session.ChannelSession.TheVariants as holding;
 
-use crate::channel_session::ChannelSession;
+use crate::channels::Channels;
 use crate::commit::commit;
-use crate::loading::Loading;
 use crate::power::{PowerCause, PowerError};
 use crate::reply::{REPLY_LIMIT, write_failure};
 use crate::serve::serve;
@@ -14,7 +12,7 @@ use crate::workspace::Workspace;
 use arrayvec::ArrayVec;
 use card_types::Tables;
 use flash_core::{Flash, FlashFailed};
-use policy_rules::{CHANNELS, Live, Rule};
+use policy_rules::Rule;
 use rec_store::Records;
 use std::alloc::Global;
 use std::marker::Model;
@@ -23,39 +21,24 @@ use std::marker::Model;
 #[derive(Drop)]
 pub struct Card<F: Flash> {
     pub(crate) records: Records<F>,
-    pub(crate) volatile: Live,
-    pub(crate) held: [ChannelSession; CHANNELS],
-    pub(crate) loading: Loading,
+    pub(crate) channels: Channels,
     pub(crate) space: Workspace,
     pub(crate) live: bool,
 }
 
-// Contracts see the device, the tables, the channels and what they hold, what is kept of the load session, and whether no call on the
-// device has failed.
+// Contracts see the device, the tables, what is kept of the channels, and whether no call on the device has failed.
 impl<F: Flash> Model for Card<F> {
     ghost use Rattle.std.specs.Prelude.{◌≡◌, [], true};
     ghost use Rattle.card_core.specs.Card.{CardOver};
-    ghost use Rattle.card_core.specs.Kept.{AreCards, kept_of};
-    ghost use Rattle.card_core.specs.Loading.{IsIdle, RepresentsSome};
+    ghost use Rattle.card_core.specs.Kept.{AreCards, RepresentsSome, kept_of};
+    ghost use Rattle.card_core.specs.Loading.{IsIdle};
 
     ghost Value = { CardOver F };
 
-    ghost view = { λ card. record { flash = card.records.flash; tables = card.records.tables; volatile = card.volatile; held = card.held; loading = card.loading.session; live = card.live } };
+    ghost view = { λ card. record { flash = card.records.flash; tables = card.records.tables; channels = card.channels; live = card.live } };
 
-    ghost invariant = { λ card. AreCards card.records.tables × (card.live ≡ true → IsIdle F.Flash card.records card.loading.writes.items
-        × RepresentsSome (kept_of card.records.tables card.volatile card.held) card.loading.session) };
-}
-
-// What the channels hold after power on.
-fn nothing_held() -> [ChannelSession; CHANNELS]
-    ensures { result ≡ holding.Nothing ∷ holding.Nothing ∷ holding.Nothing ∷ holding.Nothing ∷ [] }
-{
-    [
-        ChannelSession::Nothing,
-        ChannelSession::Nothing,
-        ChannelSession::Nothing,
-        ChannelSession::Nothing,
-    ]
+    ghost invariant = { λ card. AreCards card.records.tables × (card.live ≡ true → IsIdle F.Flash card.records card.channels.loading.writes.items
+        × RepresentsSome (kept_of card.records.tables card.channels)) };
 }
 
 impl<F: Flash> Card<F> {
@@ -79,9 +62,7 @@ impl<F: Flash> Card<F> {
         match Records::mount(alloc, flash) {
             Ok(records) => Ok(Card {
                 records,
-                volatile: Live::powered_on(),
-                held: nothing_held(),
-                loading: Loading::new(),
+                channels: Channels::powered_on(),
                 space: Workspace::new(),
                 live: true,
             }),
@@ -125,16 +106,14 @@ impl<F: Flash> Card<F> {
         reply.clear();
         let rule = serve(
             &mut self.records,
-            &mut self.volatile,
-            &mut self.held,
-            &mut self.loading,
+            &mut self.channels,
             &mut self.space,
             command,
             reply,
         );
-        match commit(&mut self.records, &self.loading.writes) {
+        match commit(&mut self.records, &self.channels.loading.writes) {
             Ok(()) => {
-                self.loading.writes.clear();
+                self.channels.loading.writes.clear();
                 Ok(rule)
             }
             Err(failed) => {
@@ -151,8 +130,7 @@ impl<F: Flash> Card<F> {
         ensures stands { (state : State) → CardRepresents F.Flash self.old state → CardRepresents F.Flash self.new (powered_on state.registry) }
         ensures same { (self.new.flash ≡ self.old.flash) × (self.new.tables ≡ self.old.tables) × (self.new.live ≡ true) }
     {
-        self.volatile = Live::powered_on();
-        self.held = nothing_held();
+        self.channels = Channels::powered_on();
     }
 
     /// Whether no call on the device has failed.

@@ -56,7 +56,7 @@ impl<F: Flash> Card<F> {
         requires used { IsSome (held self.old.tables.files.items slot) }
         ensures digest { F.tells → IfOk result (λ digest. IfSome (held self.old.tables.files.items slot)
             (λ file. digest ≡ sha256 (file_of (load_page (F.pages self.old.flash)) self.old.tables.entries.items file).bytes)) }
-        ensures same { (self.new.tables ≡ self.old.tables) × (self.new.volatile ≡ self.old.volatile) × (self.new.held ≡ self.old.held) }
+        ensures same { (self.new.tables ≡ self.old.tables) × (self.new.channels ≡ self.old.channels) }
         ensures pages { F.tells → F.pages self.new.flash ≡ F.pages self.old.flash }
         // Power lost at any moment leaves the registry.
         ensures moments { F.tells → (state : State) → CardRepresents F.Flash self.old state

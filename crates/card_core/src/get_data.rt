@@ -1,16 +1,17 @@
 //! GET DATA: data of the selected domain are answered (GlobalPlatform Card Specification 2.3.1, 11.3).
 
 ghost use Rattle.std.specs.Prelude.{◌≡◌, ◌≤◌, ◌<◌, ◌+◌, ◌++◌, ℕ, List, [], ◌∷◌, length, None, Some, slice_index_or};
-ghost use Rattle.card_core.specs.Prelude.{CarriesOutBut, ForEntry, ForShown, HasData, IsFor, IsInOrder, IsKeyInformation, IsLeast, IsRequestOf, IsTag, Spelling, array_vec_len, follows, kept_of, name_order};
+ghost use Rattle.card_core.specs.Prelude.{CarriesOutBut, ForEntry, ForKept, HasData, IsFor, IsInOrder, IsKeyInformation, IsLeast, IsRequestOf, IsTag, Spelling, array_vec_len, follows, kept_of, name_order};
 ghost use Rattle.policy_rules.specs.declared.request.Request.TheVariants.{Get};
 ghost use Rattle.scp03_card.specs.declared.close.TheConstants.{DATA_LIMIT};
 
+use crate::channels::Channels;
 use crate::reply::{Answer, Reply};
 use apdu_core::Status;
 use arrayvec::ArrayVec;
 use bertlv::{Tlv, append};
 use card_types::{DOMAIN_KEYS, KEYS, KeyRec, Tables};
-use policy_rules::{CHANNELS, Datum, KeyName, Live, Rule, judge_get_data, next_key};
+use policy_rules::{CHANNELS, Datum, KeyName, Rule, judge_get_data, next_key};
 
 /// The tag of what the key information template says of a key.
 const KEY: u16 = 0xC0;
@@ -101,7 +102,7 @@ fn write_datum(tables: &Tables, tag: u16, datum: Datum<'_>, reply: &mut Reply)
 #[inline(never)]
 pub fn get_data(
     tables: &Tables,
-    live: &Live,
+    channels: &Channels,
     channel: u8,
     domain: u8,
     tag: u16,
@@ -109,10 +110,10 @@ pub fn get_data(
 ) -> Answer
     requires in_order { IsInOrder tables.now }
     requires channel { channel < CHANNELS }
-    requires selected { slice_index_or live.now.selected channel None ≡ Some domain }
+    requires selected { slice_index_or channels.now.live.selected channel None ≡ Some domain }
     requires empty { reply.old.items ≡ [] }
-    ensures done { ForShown tables.now live.now (λ page all admitted. channel ≡ admitted.channel → IsRequestOf (Get tag) admitted.command
-        → CarriesOutBut page admitted (kept_of tables.now live.now all) reply.new.items result) }
+    ensures done { ForKept (kept_of tables.now channels.now) (λ page admitted. channel ≡ admitted.channel → IsRequestOf (Get tag) admitted.command
+        → CarriesOutBut page admitted (kept_of tables.now channels.now) reply.new.items result) }
     ensures room { length reply.new.items ≤ DATA_LIMIT }
 {
     match judge_get_data(tables, domain, tag) {

@@ -11,6 +11,7 @@ mod begin_load;
 mod card;
 mod card_status;
 mod channel_session;
+mod channels;
 mod commit;
 mod confirm;
 mod confirmed_request;

@@ -2,18 +2,18 @@
 //! Specification 2.3.1, 9.3.5 and 11.6).
 
 ghost use Rattle.std.specs.Prelude.{◌≡◌, ◌≤◌, ℕ, List, [], IfOk, IfErr, IfSome, OnErr, OnOk, Some, None, length, true};
-ghost use Rattle.card_core.specs.Prelude.{ActsIn, Admitted, AreCards, AreFree, AreRoomy, FindsConfirmer, ForBlock, ForLoading, Holds, HoldsLoad, IsBlockTaken, IsFirst, IsInOrder, IsRequestOf, IsWellFormed, LoadFails, LoadsAs, MayReceipt, block_in, block_rule, delegated_management, load_rules, with_due};
+ghost use Rattle.card_core.specs.Prelude.{ActsIn, Admitted, AreCards, AreFree, AreRoomy, FindsConfirmer, ForBlock, ForKept, Holds, IsBlockTaken, IsFirst, IsInOrder, IsRequestOf, IsWellFormed, LoadFails, LoadsAs, MayReceipt, RepresentsSome, block_in, block_rule, delegated_management, kept_of, load_rules, with_due};
 ghost use Rattle.policy_rules.specs.declared.request.Request.TheVariants.{Load};
 ghost use Rattle.scp03_card.specs.declared.close.TheConstants.{DATA_LIMIT};
 
+use crate::channels::Channels;
 use crate::loaded_file::add_loaded;
-use crate::loading::Loading;
 use crate::reply::{Answer, Reply};
 use apdu_core::Status;
 use card_types::Tables;
 use flash_core::Flash;
 use load_session::{BlockStop, LoadSession, Taken};
-use policy_rules::{Live, LoadName, LoadRequest, Rule, RuleLO, judge_load, judge_loaded_by};
+use policy_rules::{LoadName, LoadRequest, Rule, RuleLO, judge_load, judge_loaded_by};
 use rec_store::Records;
 
 /// What the judgement of a block found: what it brings, and with the last one the slot of the domain that confirms the command, or
@@ -72,8 +72,7 @@ fn judge_block(
 #[inline(never)]
 pub fn load<F: Flash>(
     records: &mut Records<F>,
-    live: &mut Live,
-    loading: &mut Loading,
+    channels: &mut Channels,
     channel: u8,
     domain: u8,
     request: &LoadRequest<'_>,
@@ -83,36 +82,37 @@ pub fn load<F: Flash>(
     requires clean { records.old.staged ≡ [] }
     requires cards { AreCards records.old.tables }
     requires formed { IsWellFormed (Load request.now) }
-    requires holds { HoldsLoad records.old.tables live.old loading.old.session }
-    requires unwritten { loading.old.writes.items ≡ [] }
+    requires some { RepresentsSome (kept_of records.old.tables channels.old) }
+    requires unwritten { channels.old.loading.writes.items ≡ [] }
     requires empty { reply.old.items ≡ [] }
-    ensures done { ForLoading records.old.tables live.old loading.old.session domain (λ page admitted. channel ≡ admitted.channel
+    ensures done { ForKept (kept_of records.old.tables channels.old) (λ page admitted. ActsIn page records.old.tables domain admitted → channel ≡ admitted.channel
         → IsRequestOf (Load request.now) admitted.command
-        → LoadsAs admitted (with_due page loading.new) records.new.tables live.new loading.new.session reply.new.items result) }
-    ensures writes { AreFree records.old.tables loading.new.writes.items }
+        → LoadsAs admitted (with_due page channels.new.loading) records.new.tables channels.new.live channels.new.loading.session reply.new.items result) }
+    ensures writes { AreFree records.old.tables channels.new.loading.writes.items }
+    ensures sessions { channels.new.sessions ≡ channels.old.sessions }
     ensures cards { AreCards records.new.tables }
     ensures same { (records.new.flash ≡ records.old.flash) × (records.new.live ≡ true) }
-    ensures refused { OnErr result ((records.new ≡ records.old) × (live.new ≡ live.old) × (loading.new ≡ loading.old)) }
+    ensures refused { OnErr result ((records.new ≡ records.old) × (channels.new ≡ channels.old)) }
     ensures room { length reply.new.items ≤ DATA_LIMIT }
 {
-    let name = judge_load(records.tables(), live, channel, domain, request)?;
-    let session = loading.session.as_ref().unwrap();
+    let name = judge_load(records.tables(), &channels.live, channel, domain, request)?;
+    let session = channels.loading.session.as_ref().unwrap();
     let judged = judge_block(records.tables(), session, domain, &name, request)?;
-    let session = loading.session.as_mut().unwrap();
+    let session = channels.loading.session.as_mut().unwrap();
     session.take_block(
         records.tables(),
         request.last,
         request.block,
         judged.taken,
-        &mut loading.writes,
+        &mut channels.loading.writes,
     );
     if !request.last {
-        live.count_block();
+        channels.live.count_block();
         reply.push(0x00);
         return Ok(Status(0x9000));
     }
-    let session = loading.session.take().unwrap();
+    let session = channels.loading.session.take().unwrap();
     add_loaded(records, session.finish(), judged.receipter, reply);
-    live.end_load(channel);
+    channels.live.end_load(channel);
     Ok(Status(0x9000))
 }

@@ -1,12 +1,12 @@
 //! MANAGE CHANNEL: a channel is opened or closed (GlobalPlatform Card Specification 2.3.1, 11.7).
 
-ghost use Rattle.std.specs.Prelude.{◌≡◌, ◌≤◌, ◌<◌, ℕ, List, [], length};
-ghost use Rattle.card_core.specs.Prelude.{Admitted, CarriesOutBut, ForShown, HasLayout, IsRequestOf, RepresentsSoundly, kept_of};
+ghost use Rattle.std.specs.Prelude.{◌≡◌, ◌≤◌, ◌<◌, [], length};
+ghost use Rattle.card_core.specs.Prelude.{CarriesOutBut, ForKept, HasLayout, IsRequestOf, Kept, kept_live, kept_of};
 ghost use Rattle.card_types.specs.declared.tables.Tables.{Tables};
 ghost use Rattle.policy_rules.specs.declared.request.Request.TheVariants.{MoreChannel, LessChannel};
 ghost use Rattle.scp03_card.specs.declared.close.TheConstants.{DATA_LIMIT};
 
-use crate::channel_session::ChannelSession;
+use crate::channels::Channels;
 use crate::reply::{Answer, Reply};
 use apdu_core::Status;
 use card_types::ISSUER_SLOT;
@@ -15,9 +15,8 @@ use policy_rules::{CHANNELS, Live, Rule, judge_more_channel};
 /// Opens the lowest closed channel, with the Issuer Security Domain selected, and answers its number.
 pub fn open_channel(live: &mut Live, reply: &mut Reply) -> Answer
     requires empty { reply.old.items ≡ [] }
-    ensures done { (tables : Tables) → HasLayout tables → ForShown tables live.old (λ page all admitted. admitted.channel < CHANNELS
-        → IsRequestOf MoreChannel admitted.command
-        → CarriesOutBut page admitted (kept_of tables live.new all) reply.new.items result) }
+    ensures done { (card : Kept) → HasLayout card.tables → ForKept (kept_live card live.old) (λ page admitted. admitted.channel < CHANNELS
+        → IsRequestOf MoreChannel admitted.command → CarriesOutBut page admitted (kept_live card live.new) reply.new.items result) }
     ensures room { length reply.new.items ≤ DATA_LIMIT }
 {
     match judge_more_channel(live) {
@@ -31,18 +30,15 @@ pub fn open_channel(live: &mut Live, reply: &mut Reply) -> Answer
 }
 
 /// Closes a channel. A warning says that it was closed already.
-pub fn close_channel(live: &mut Live, held: &mut [ChannelSession; CHANNELS], number: u8) -> Answer
+pub fn close_channel(channels: &mut Channels, number: u8) -> Answer
     requires low { 1 ≤ number }
     requires high { number < CHANNELS }
-    ensures done { (page : ℕ → List ℕ) (tables : Tables) (admitted : Admitted) → RepresentsSoundly page (kept_of tables live.old held.old) admitted.at
-        → IsRequestOf (LessChannel number) admitted.command
-        → CarriesOutBut page admitted (kept_of tables live.new held.new) [] result }
+    ensures done { (tables : Tables) → ForKept (kept_of tables channels.old) (λ page admitted. IsRequestOf (LessChannel number) admitted.command
+        → CarriesOutBut page admitted (kept_of tables channels.new) [] result) }
 {
-    let place = usize::from(number);
-    if live.selected[place].is_none() {
+    if channels.live.selected[usize::from(number)].is_none() {
         return Ok(Status(0x6200));
     }
-    live.set_channel(number, None);
-    held[place].end();
+    channels.set_channel(number, None);
     Ok(Status(0x9000))
 }

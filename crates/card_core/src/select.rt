@@ -1,17 +1,17 @@
 //! SELECT: an entry is selected on a channel (GlobalPlatform Card Specification 2.3.1, 11.9 and chapter 6).
 
-ghost use Rattle.std.specs.Prelude.{◌≡◌, ◌≤◌, ◌<◌, [], length, slice_set};
-ghost use Rattle.card_core.specs.Prelude.{CarriesOutBut, ForShown, IsControlInformation, IsInOrder, IsRequestOf, held_on, kept_of};
+ghost use Rattle.std.specs.Prelude.{◌≡◌, ◌≤◌, ◌<◌, [], length};
+ghost use Rattle.card_core.specs.Prelude.{CarriesOutBut, ForKept, IsControlInformation, IsInOrder, IsRequestOf, kept_of};
 ghost use Rattle.policy_machine.specs.Select.{selected_status as status_by};
 ghost use Rattle.policy_rules.specs.declared.request.Request.TheVariants.{Select};
 ghost use Rattle.scp03_card.specs.declared.close.TheConstants.{DATA_LIMIT};
 
-use crate::channel_session::ChannelSession;
+use crate::channels::Channels;
 use crate::reply::{Answer, Reply};
 use apdu_core::Status;
 use arrayvec::ArrayVec;
 use card_types::{CardLife, Tables};
-use policy_rules::{CHANNELS, Live, Rule, judge_select};
+use policy_rules::{CHANNELS, Rule, judge_select};
 
 /// The tag of a template of file control information.
 const CONTROL_INFORMATION: u8 = 0x6F;
@@ -49,8 +49,7 @@ fn selected_status(card_life: CardLife) -> Status
 /// Selects the entry that fits a partial AID, and answers its file control information.
 pub fn select(
     tables: &Tables,
-    live: &mut Live,
-    held: &mut ChannelSession,
+    channels: &mut Channels,
     channel: u8,
     partial: &[u8],
     reply: &mut Reply,
@@ -58,15 +57,13 @@ pub fn select(
     requires in_order { IsInOrder tables.now }
     requires channel { channel < CHANNELS }
     requires empty { reply.old.items ≡ [] }
-    ensures done { ForShown tables.now live.old (λ page all admitted. channel ≡ admitted.channel → held_on all channel ≡ held.old
-        → IsRequestOf (Select partial.entry) admitted.command
-        → CarriesOutBut page admitted (kept_of tables.now live.new (slice_set all channel held.new)) reply.new.items result) }
+    ensures done { ForKept (kept_of tables.now channels.old) (λ page admitted. channel ≡ admitted.channel → IsRequestOf (Select partial.entry) admitted.command
+        → CarriesOutBut page admitted (kept_of tables.now channels.new) reply.new.items result) }
     ensures room { length reply.new.items ≤ DATA_LIMIT }
 {
     match judge_select(tables, partial) {
         Ok(found) => {
-            live.set_channel(channel, Some(found.slot));
-            held.end();
+            channels.set_channel(channel, Some(found.slot));
             write_control_information(found.thing.aid.as_bytes(), reply);
             Ok(selected_status(tables.life))
         }

@@ -1,14 +1,14 @@
 //! What is done with a command (GlobalPlatform Card Specification 2.3.1, chapter 11).
 
-ghost use Rattle.std.specs.Prelude.{◌≡◌, ◌⊎◌, ◌<◌, ◌≤◌, ◌++◌, ◌==◌, ℕ, List, [], length, false, true, None, Some, Option, IsSome, Contains, OnOk, OnErr, IfOk, IfErr, IfSome, option_copied, slice_index_or, slice_set};
-ghost use Rattle.card_core.specs.Prelude.{AreCards, AreFree, Bars, CarriesOutLoading, ForCome, ForPassed, HasPages, IsBuilt, IsInSession, IsKnown, IsOpenedIn, IsPassedOver, IsReady, IsTerminatedFor, MayCommit, Passes, RepresentsAll, RepresentsSecureChannel, RepresentsSome, Secured, ServesLoading, Session, State, apdu_of, changing, class_of, held_on, held_passed, kept_of, live_passed, live_refused, live_without_place, managing, plain_of, protected, rule_of, sent, status_bytes, status_word, without_offer_held};
+ghost use Rattle.std.specs.Prelude.{◌≡◌, ◌⊎◌, ◌<◌, ◌≤◌, ◌++◌, ◌==◌, ℕ, List, [], length, false, true, None, Some, Option, IsSome, Contains, OnOk, OnErr, IfOk, IfErr, IfSome, option_copied, slice_index_or};
+ghost use Rattle.card_core.specs.Prelude.{AreCards, AreFree, Bars, CarriesOut, ForCome, ForKept, HasPages, IsBuilt, IsInSession, IsKnown, IsOpenedIn, IsPassed, IsReady, IsSound, IsTerminatedFor, KeptRepresents, MayCommit, Passes, RepresentsSecureChannel, RepresentsSome, Secured, Serves, Session, State, apdu_of, changing, class_of, held_on, held_passed, kept_of, kept_set, live_passed, live_without_place, managing, plain_of, protected, rule_of, sent, status_bytes, status_word, with_due};
 ghost use Rattle.policy_machine.specs.Classes.{is_protected as is_protected_command};
 ghost use Rattle.policy_machine.specs.declared.instruction.TheConstants.{GET_DATA, GET_STATUS, INITIALIZE_UPDATE};
 ghost use Rattle.scp03_card.specs.declared.close.TheConstants.{DATA_LIMIT};
 
-use crate::admit::{Received, admit, is_over};
+use crate::admit::{Received, admit, is_terminated_for};
 use crate::channel_session::ChannelSession;
-use crate::loading::Loading;
+use crate::channels::Channels;
 use crate::perform::perform;
 use crate::read_request::read_request;
 use crate::reply::{Answer, Reply, write_status};
@@ -35,7 +35,7 @@ fn check_class(
     ensures lost { OnErr result (held.new ≡ held_passed false held.old) }
 {
     let ins = received.command.ins;
-    let over = is_over(card_life, received.class, ins);
+    let over = is_terminated_for(card_life, received.class, ins);
     if over || ins != EXTERNAL_AUTHENTICATE {
         held.drop_offer();
     }
@@ -69,55 +69,41 @@ fn pass_session(received: &Received<'_>, live: &mut Live)
     }
 }
 
-// What a refusal ends: an offer on the channel, and a load session that the rule does not keep.
-fn refuse(rule: Rule, channel: u8, live: &mut Live, held: &mut ChannelSession)
-    ensures live { live.new ≡ live_refused rule channel live.old }
-    ensures held { held.new ≡ without_offer_held held.old }
-{
-    held.drop_offer();
-    if !rule.keeps_load() {
-        live.end_load(channel);
-    }
-}
-
 // Does what a command asks for, and appends the reply's data; a refusal ends what it has to.
 fn act<F: Flash>(
     records: &mut Records<F>,
-    live: &mut Live,
-    held: &mut [ChannelSession; CHANNELS],
-    loading: &mut Loading,
+    channels: &mut Channels,
     received: &Received<'_>,
     command: &Command<'_>,
     place: Option<&Place>,
     reply: &mut Reply,
 ) -> Answer
-    requires ready { IsReady command.now.ins records.old live.old held.old loading.old received.now reply.old.items }
+    requires ready { IsReady command.now.ins records.old channels.old received.now reply.old.items }
     requires built { IsBuilt command.now.ins }
     requires short { length command.now.body.now ≤ 255 }
-    requires passed { IsPassedOver received.now.channel (apdu_of command.now) (option_copied place) (kept_of records.old.tables live.old held.old) loading.old.session }
-    ensures done { ForPassed received.now.channel (apdu_of command.now) (option_copied place.entry) (kept_of records.old.tables live.old held.old) loading.old.session
-        (λ page told. CarriesOutLoading page told (kept_of records.new.tables live.new held.new) loading.new reply.new.items result) }
+    requires some { RepresentsSome (kept_of records.old.tables channels.old) }
+    ensures done { ForKept (kept_of records.old.tables channels.old) (λ page admitted. IsPassed received.now.channel (apdu_of command.now) (option_copied place.entry) admitted
+        → CarriesOut (with_due page channels.new.loading) admitted (kept_of records.new.tables channels.new) reply.new.items result) }
     ensures cards { AreCards records.new.tables }
     ensures same { (records.new.flash ≡ records.old.flash) × (records.new.live ≡ true) }
-    ensures writes { AreFree records.old.tables loading.new.writes.items }
-    ensures refused { OnErr result ((records.new ≡ records.old) × (loading.new.writes.items ≡ [])) }
-    ensures idle { (command.now.ins ≡ INITIALIZE_UPDATE → ⊥) → (Contains changing command.now.ins → ⊥) → (records.new ≡ records.old) × (loading.new.writes.items ≡ []) }
-    ensures kept { IsInSession (held_on held.old received.now.channel) → (command.now.ins ≡ GET_DATA) ⊎ Contains managing command.now.ins → held.new ≡ held.old }
+    ensures writes { AreFree records.old.tables channels.new.loading.writes.items }
+    ensures refused { OnErr result ((records.new ≡ records.old) × (channels.new.loading.writes.items ≡ [])) }
+    ensures idle { (command.now.ins ≡ INITIALIZE_UPDATE → ⊥) → (Contains changing command.now.ins → ⊥) → (records.new ≡ records.old) × (channels.new.loading.writes.items ≡ []) }
+    ensures kept { IsInSession (held_on channels.old.sessions received.now.channel) → (command.now.ins ≡ GET_DATA) ⊎ Contains managing command.now.ins
+        → channels.new.sessions ≡ channels.old.sessions }
     ensures room { length reply.new.items ≤ DATA_LIMIT }
 {
     let at = usize::from(received.channel);
-    let request = match read_request(&held[at], command) {
+    let request = match read_request(&channels.sessions[at], command) {
         Ok(request) => request,
         Err(rule) => {
-            refuse(rule, received.channel, live, &mut held[at]);
+            channels.refuse(rule, received.channel);
             return Err(rule);
         }
     };
-    let served = perform(
-        records, live, held, loading, received, &request, place, reply,
-    );
+    let served = perform(records, channels, received, &request, place, reply);
     if let Err(rule) = served {
-        refuse(rule, received.channel, live, &mut held[at]);
+        channels.refuse(rule, received.channel);
     }
     served
 }
@@ -134,10 +120,10 @@ fn pass(
     requires short { length received.now.command.body.now ≤ 255 }
     requires known { IsKnown received.now.command.class received.now.command.ins }
     requires class { class_of received.now.command.class ≡ Some received.now.class }
-    ensures passed { ForCome received.now live.old held.old (λ page tables all state bytes. tables.life ≡ card_life
-        → IfOk result (λ opened. Passes page (kept_of tables live.new (slice_set all received.now.channel held.new)) state bytes (apdu_of received.now.command) held.new opened plain.new)) }
-    ensures refused { ForCome received.now live.old held.old (λ page tables all state bytes. tables.life ≡ card_life
-        → IfErr result (Bars page (kept_of tables live.new (slice_set all received.now.channel held.new)) state bytes)) }
+    ensures passed { ForCome received.now live.old held.old (λ page card state bytes. card.tables.life ≡ card_life
+        → IfOk result (λ opened. Passes page (kept_set card live.new received.now.channel held.new) state bytes (apdu_of received.now.command) held.new opened plain.new)) }
+    ensures refused { ForCome received.now live.old held.old (λ page card state bytes. card.tables.life ≡ card_life
+        → IfErr result (Bars page (kept_set card live.new received.now.channel held.new) state bytes)) }
     ensures short { IfOk result (λ opened. IfSome opened (λ count. count ≤ 255)) }
     ensures secured { IfOk result (λ opened. IfSome opened (λ count. IsInSession held.new × (is_protected_command (apdu_of received.now.command) ≡ true))) }
     ensures managed { OnOk result (Contains managing received.now.command.ins → IsInSession held.new) }
@@ -240,9 +226,7 @@ fn close(
 /// nothing.
 pub fn serve<F: Flash>(
     records: &mut Records<F>,
-    live: &mut Live,
-    held: &mut [ChannelSession; CHANNELS],
-    loading: &mut Loading,
+    channels: &mut Channels,
     space: &mut Workspace,
     bytes: &[u8],
     reply: &mut Reply,
@@ -250,26 +234,27 @@ pub fn serve<F: Flash>(
     requires live { records.old.live ≡ true }
     requires clean { records.old.staged ≡ [] }
     requires cards { AreCards records.old.tables }
-    requires some { RepresentsSome (kept_of records.old.tables live.old held.old) loading.old.session }
-    requires unwritten { loading.old.writes.items ≡ [] }
+    requires some { RepresentsSome (kept_of records.old.tables channels.old) }
+    requires unwritten { channels.old.loading.writes.items ≡ [] }
     requires empty { reply.old.items ≡ [] }
-    ensures served { (page : ℕ → List ℕ) (state : State) → HasPages page → RepresentsAll page (kept_of records.old.tables live.old held.old) loading.old.session state
-        → ServesLoading page state bytes.now (kept_of records.new.tables live.new held.new) loading.new reply.new.items result }
-    ensures writes { AreFree records.old.tables loading.new.writes.items }
+    ensures served { (page : ℕ → List ℕ) (state : State) → HasPages page → KeptRepresents page (kept_of records.old.tables channels.old) state → IsSound state
+        → Serves (with_due page channels.new.loading) state bytes.now (kept_of records.new.tables channels.new) reply.new.items result }
+    ensures writes { AreFree records.old.tables channels.new.loading.writes.items }
     ensures cards { AreCards records.new.tables }
     ensures same { (records.new.flash ≡ records.old.flash) × (records.new.live ≡ true) }
-    ensures refused { IsSome result → (records.new ≡ records.old) × (loading.new.writes.items ≡ []) }
-    ensures idle { (MayCommit bytes.now → ⊥) → (records.new ≡ records.old) × (loading.new.writes.items ≡ []) }
+    ensures refused { IsSome result → (records.new ≡ records.old) × (channels.new.loading.writes.items ≡ []) }
+    ensures idle { (MayCommit bytes.now → ⊥) → (records.new ≡ records.old) × (channels.new.loading.writes.items ≡ []) }
 {
-    let received = match admit(records.tables(), live, bytes) {
+    let received = match admit(records.tables(), &channels.live, bytes) {
         Ok(received) => received,
         Err(rule) => return close_plain(Err(Rule::G(rule)), reply),
     };
-    let channel = usize::from(received.channel);
-    let place = take_place(live, &received, &mut space.place);
+    let at = usize::from(received.channel);
+    let place = take_place(&mut channels.live, &received, &mut space.place);
     let life = records.tables().life;
     let plain = &mut space.plain;
-    let opened = match pass(life, &received, live, &mut held[channel], plain) {
+    let session = &mut channels.sessions[at];
+    let opened = match pass(life, &received, &mut channels.live, session, plain) {
         Ok(opened) => opened,
         Err(rule) => return close_plain(Err(Rule::G(rule)), reply),
     };
@@ -277,8 +262,6 @@ pub fn serve<F: Flash>(
         body: plain_body(&received.command, opened, plain),
         ..received.command
     };
-    let served = act(
-        records, live, held, loading, &received, &command, place, reply,
-    );
-    close(served, opened, &mut held[channel], reply)
+    let served = act(records, channels, &received, &command, place, reply);
+    close(served, opened, &mut channels.sessions[at], reply)
 }

@@ -33,7 +33,7 @@ pub mod ShownCard
 pub mod ShownText
 pub mod Replayed
 pub mod ReplyLine
-pub mod RepresentsSoundly
+pub mod CardStands
 pub mod Scripts
 pub mod Statuses
 pub mod StepsOver

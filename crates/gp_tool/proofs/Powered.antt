@@ -75,7 +75,7 @@ module _ {S K F : Type 0} (verb : Verb) (source : Source S) (sink : Sink K) (dev
         ending = serves.ending;
         ended = (let ended = serves.ended in record { status_is = ended.status_is; cause = cause_since serves.ending _ _ _ _ _ later ended.cause; flushes = ended.flushes });
         ends = ends;
-        apart = lines_keep_trees verb 1 course.given (start verb first) course.last course.effect stands.on.sound course.plays;
+        apart = lines_keep_trees verb 1 course.given (start verb first) course.last course.effect stands.sound course.plays;
       }
 
 -- where the device holds a card and doesn't fail, want of memory alone is left

@@ -14,7 +14,7 @@ judge_request-requires-clause-short c = omega (arith, c.requires.formed.1.means.
 
 pub returns-in_err-judged-clause-done : goal.returns-in_err-judged-clause-done
 returns-in_err-judged-clause-done c page admitted acts says channels on request =
-    refusal_loaded admitted page c.args.tables.now c.args.live.now c.args.loading.now.session c.args.reply.now.items c.from_residual.result c.in_err-judged.field-0.0 c.from_residual.ensures.1
+    refusal_loaded admitted page c.args.tables.now c.args.channels.now.live c.args.channels.now.loading.session c.args.reply.now.items c.from_residual.result c.in_err-judged.field-0.0 c.from_residual.ensures.1
     (judged install_load listed admitted request.form refl (Some c.in_err-judged.field-0.0) (c.in_err-judged.ensures.refused page admitted acts says.load request.means)) c.requires.empty
 
 pub returns-clause-done : goal.returns-clause-done

@@ -15,21 +15,25 @@ pub judge_block-requires-clause-in_order : goal.judge_block-requires-clause-in_o
 judge_block-requires-clause-in_order g c = subst IsInOrder (sym c.tables-2.ensures.tables) (in_order c.args.records.now.tables c.requires.cards)
 
 pub returns-in_err-name-clause-done : goal.returns-in_err-name-clause-done
-returns-in_err-name-clause-done g c page admitted acts says channels whole sound loads on asked =
+returns-in_err-name-clause-done g c page admitted whole shows sound acts on asked =
+    let says = shows.says in
+    let loads = shows.loading in
     let refused = rw c.tables.ensures.tables at c.in_err-name.ensures.refused in
     let rule = c.in_err-name.field-0.0 in
-    load_refused admitted asked.form (loaded page c.args.loading.now.writes.items) c.args.records.now.tables c.args.live.now c.args.loading.now.session c.args.reply.now.items
+    load_refused admitted asked.form (loaded page c.args.channels.now.loading.writes.items) c.args.records.now.tables c.args.channels.now.live c.args.channels.now.loading.session c.args.reply.now.items
     c.from_residual.result rule c.from_residual.ensures.1 (front_refuses admitted rule (refused page admitted acts (record { named = says.load; on = on }) asked.means)) c.requires.empty
 
 pub returns-in_err-judged-clause-done : goal.returns-in_err-judged-clause-done
-returns-in_err-judged-clause-done g c page admitted acts says channels whole sound loads on asked =
-    let at : c.args.loading.now.session ≡ Some c.unwrap-session.result.now = search rules in
+returns-in_err-judged-clause-done g c page admitted whole shows sound acts on asked =
+    let says = shows.says in
+    let loads = shows.loading in
+    let at : c.args.channels.now.loading.session ≡ Some c.unwrap-session.result.now = search rules in
     let passed = rw c.tables.ensures.tables at c.in_ok-name.ensures.passed in
-    let is_for = for_block page c.args.records.now.tables c.args.live.now c.args.loading.now.session c.unwrap-session.result.now c.in_ok-name.name c.args.domain c.args.channel c.args.request.now admitted
+    let is_for = for_block page c.args.records.now.tables c.args.channels.now.live c.args.channels.now.loading.session c.unwrap-session.result.now c.in_ok-name.name c.args.domain c.args.channel c.args.request.now admitted
     at c.in_ok-name.ensures.name on whole acts says sound loads asked.means (passed page admitted acts (record { named = says.load; on = on }) asked.means) in
     let refused = rw c.tables-2.ensures.tables at c.in_err-judged.ensures.refused in
     let rule = c.in_err-judged.field-0.0 in
-    load_refused admitted asked.form (loaded page c.args.loading.now.writes.items) c.args.records.now.tables c.args.live.now c.args.loading.now.session c.args.reply.now.items
+    load_refused admitted asked.form (loaded page c.args.channels.now.loading.writes.items) c.args.records.now.tables c.args.channels.now.live c.args.channels.now.loading.session c.args.reply.now.items
     c.from_residual-in_err-judged.result rule c.from_residual-in_err-judged.ensures.1 (refused page admitted is_for) c.requires.empty
 
 -- more blocks come
@@ -40,18 +44,20 @@ pub returns-clause-writes : goal.returns-clause-writes
 returns-clause-writes g c = new_free c.args.records.now.tables _ c.take_block.new.writes.items (rw c.tables-3.ensures.tables at c.take_block.ensures.writes)
 
 pub returns-then-not-request-clause-done : goal.returns-then-not-request-clause-done
-returns-then-not-request-clause-done g c page admitted acts says channels whole sound loads on asked =
+returns-then-not-request-clause-done g c page admitted whole shows sound acts on asked =
+    let says = shows.says in
+    let loads = shows.loading in
     let tables = c.args.records.now.tables in
-    let live = c.args.live.now in
+    let live = c.args.channels.now.live in
     let kept = c.unwrap-session.result.now in
     let name = c.in_ok-name.name in
     let request = c.args.request.now in
     let taken = c.in_ok-judged.judged.taken in
     let writes = c.take_block.new.writes.items in
-    let at : c.args.loading.now.session ≡ Some kept = search rules in
+    let at : c.args.channels.now.loading.session ≡ Some kept = search rules in
     let same : kept ≡ c.unwrap-session-2.result.now = search rules in
     let front = rw c.tables.ensures.tables at c.in_ok-name.ensures.passed in
-    let is_for = for_block page tables live c.args.loading.now.session kept name c.args.domain c.args.channel request admitted at c.in_ok-name.ensures.name on whole acts says sound loads asked.means
+    let is_for = for_block page tables live c.args.channels.now.loading.session kept name c.args.domain c.args.channel request admitted at c.in_ok-name.ensures.name on whole acts says sound loads asked.means
     (front page admitted acts (record { named = says.load; on = on }) asked.means) in
     let passed = rw c.tables-2.ensures.tables at c.in_ok-judged.ensures.passed in
     let brought = rw c.tables-2.ensures.tables at c.in_ok-judged.ensures.taken in
@@ -72,12 +78,12 @@ pub add_loaded-requires : goal.add_loaded-requires
 add_loaded-requires g c =
     let tables = c.args.records.now.tables in
     let kept = c.unwrap-session-2.result.now in
-    let at : c.args.loading.now.session ≡ Some kept = search rules in
+    let at : c.args.channels.now.loading.session ≡ Some kept = search rules in
     let same : c.unwrap-session.result.now ≡ kept = search rules in
     let last : c.unwrap-session-3.result ≡ c.take_block.new.self = search rules in
     let slot : c.finish.result.domain ≡ load_slot kept = search rules in
     let aid : c.finish.result.aid ≡ load_aid kept = search rules in
-    let held = held_load tables c.args.live.now c.args.loading.now.session c.requires.holds c.in_ok-name.name c.in_ok-name.ensures.name.0 kept at in
+    let held = held_load tables c.args.channels.now.live c.args.channels.now.sessions c.args.channels.now.loading.session c.requires.some c.in_ok-name.name c.in_ok-name.ensures.name.0 kept at in
     let brought = subst (λ (k : LoadSession). IsBlockTaken tables k (block_in c.args.request.now) c.in_ok-judged.judged.taken) same (rw c.tables-2.ensures.tables at c.in_ok-judged.ensures.taken) in
     let stands = rw c.tables-3.ensures.tables at c.take_block.ensures.stands in
     let sound = rw c.tables-3.ensures.tables at c.take_block.ensures.sound in
@@ -102,19 +108,21 @@ add_loaded-requires g c =
     }
 
 pub returns-clause-done : goal.returns-clause-done
-returns-clause-done g c page admitted acts says channels whole sound loads on asked =
+returns-clause-done g c page admitted whole shows sound acts on asked =
+    let says = shows.says in
+    let loads = shows.loading in
     let tables = c.args.records.now.tables in
-    let live = c.args.live.now in
+    let live = c.args.channels.now.live in
     let kept = c.unwrap-session.result.now in
     let name = c.in_ok-name.name in
     let request = c.args.request.now in
     let taken = c.in_ok-judged.judged.taken in
     let writes = c.take_block.new.writes.items in
-    let at : c.args.loading.now.session ≡ Some kept = search rules in
+    let at : c.args.channels.now.loading.session ≡ Some kept = search rules in
     let same : kept ≡ c.unwrap-session-2.result.now = search rules in
     let last : c.unwrap-session-3.result ≡ c.take_block.new.self = search rules in
     let front = rw c.tables.ensures.tables at c.in_ok-name.ensures.passed in
-    let is_for = for_block page tables live c.args.loading.now.session kept name c.args.domain c.args.channel request admitted at c.in_ok-name.ensures.name on whole acts says sound loads asked.means
+    let is_for = for_block page tables live c.args.channels.now.loading.session kept name c.args.domain c.args.channel request admitted at c.in_ok-name.ensures.name on whole acts says sound loads asked.means
     (front page admitted acts (record { named = says.load; on = on }) asked.means) in
     let passed = rw c.tables-2.ensures.tables at c.in_ok-judged.ensures.passed in
     let brought = rw c.tables-2.ensures.tables at c.in_ok-judged.ensures.taken in

@@ -1,19 +1,17 @@
 use Rattle.std.proofs.Common.{◌<◌, ℕ, List, Some, refl, sym, ap, inl, subst, ◌∙◌}
-use Rattle.std.specs.Prelude.{slice_set}
-use Rattle.std.proofs.lemmas.List.{length-set}
 use Rattle.policy_machine.specs.declared.rule.Rule.TheVariants.{SE}
 use Rattle.policy_machine.proofs.Judging.{does_so}
 use Rattle.policy_machine.proofs.SelectLaws.{select_passes, select_refused}
-use Rattle.card_core.specs.Prelude.{IsControlInformation, fresh, select, selected_status, with_selected}
+use Rattle.card_core.specs.Prelude.{IsControlInformation, fresh, kept_of, select, selected_status, with_selected}
 use Rattle.policy_machine.specs.declared.channels.TheConstants.{CHANNELS}
 use Rattle.card_core.proofs.Carrying.{refusal_shows}
-use Rattle.card_core.proofs.ChannelChanges.{begun_shows, held_same}
+use Rattle.card_core.proofs.ChannelChanges.{begun_shows}
 use Rattle.card_core.proofs.select.select.Goals as goal
 
 pub returns-in-Ok-clause-done : goal.returns-in-Ok-clause-done
-returns-in-Ok-clause-done c page all admitted stands four here same request =
+returns-in-Ok-clause-done c page admitted whole shows sound here request =
     let means = request.means in
-    let says = stands.shows.says in
+    let says = shows.says in
     let found = c.in-Ok.ensures.found page admitted.at.registry says.registry in
     let passes = select_passes admitted c.args.partial.now request.form means _ found in
     let low : admitted.channel < CHANNELS = subst (λ (n : ℕ). n < CHANNELS) here c.requires.channel in
@@ -23,8 +21,7 @@ returns-in-Ok-clause-done c page all admitted stands four here same request =
         body = c.write_control_information.new.reply.items;
         status = c.selected_status.result.0;
       },
-      rw (c.set_channel.ensures.set, here, c.end.ensures) (begun_shows page c.args.tables.now c.args.live.now all admitted.at stands.shows
-          (record { held = four; channels = stands.sound.fits.channels }) admitted.channel low
+      rw (c.set_channel.ensures.set, here) (begun_shows page (kept_of c.args.tables.now c.args.channels.now) admitted.at shows sound.fits.channels admitted.channel low
           (subst (λ (n : ℕ). admitted.channel < n) (sym c.set_channel.ensures.four) low) (Some c.in-Ok.found.slot) (Some (fresh entry.aid)) (entry, c.in-Ok.ensures.at, refl) refl refl),
       passes.0,
       does_so select (λ holds here. inl here) admitted request.form _ (rw passes.1 (record {
@@ -38,14 +35,11 @@ returns-in-Ok-clause-done c page all admitted stands four here same request =
     )
 
 pub returns-in-Err-clause-done : goal.returns-in-Err-clause-done
-returns-in-Err-clause-done c page all admitted stands four here same request =
+returns-in-Err-clause-done c page admitted whole shows sound here request =
     let means = request.means in
-    let says = stands.shows.says in
+    let says = shows.says in
     let none = c.in-Err.ensures.none page admitted.at.registry says.registry in (
-      refusal_shows page (record { tables = c.args.tables.now; live = c.args.live.now; held = slice_set all c.args.channel c.args.held.now }) admitted
-          (record { held = length-set all c.args.channel c.args.held.now ∙ four; channels = stands.sound.fits.channels })
-          (subst (λ (n : ℕ). n < CHANNELS) here c.requires.channel)
-          (held_same page (record { tables = c.args.tables.now; live = c.args.live.now; held = all }) _ c.args.channel c.args.held.now same stands.shows) (SE c.in-Err.rule),
+      refusal_shows page (kept_of c.args.tables.now c.args.channels.now) admitted shows sound (subst (λ (n : ℕ). n < CHANNELS) here c.requires.channel) (SE c.in-Err.rule),
       select_refused admitted c.args.partial.now request.form means c.in-Err.rule none,
       c.requires.empty,
     )

@@ -1,14 +1,14 @@
-use Rattle.std.proofs.Common.{◌≡◌, ◌⊎◌, ◌<◌, ℕ, List, Option, Err, length, refl, rules, sym, ap, subst, ◌∙◌}
+use Rattle.std.proofs.Common.{◌≡◌, ◌⊎◌, ℕ, List, Option, Err, refl, sym, ap, subst, ◌∙◌}
 use Rattle.std.specs.Prelude.{Contains, slice_index_or}
-use Rattle.card_core.specs.Prelude.{Admitted, Apdu, IsAsked, IsInSession, IsPassed, IsReady, IsRequestOf, RepresentsSecureChannel, apdu_of, loaded, managing, secure_channel_for, without_offer_held}
-use Rattle.card_core.proofs.Acting.{held_there, low}
+use Rattle.card_core.specs.Prelude.{Admitted, Apdu, IsAsked, IsInSession, IsPassed, IsReady, IsRequestOf, apdu_of, kept_of, loaded, managing}
+use Rattle.card_core.proofs.Acting.{holds_for, low}
 use Rattle.card_core.proofs.Carrying.{done_carried, refusal_carried, refused_carried}
-use Rattle.card_core.proofs.Passed.{read_at, session_kept}
+use Rattle.card_core.proofs.Passed.{session_kept}
 use Rattle.policy_machine.specs.declared.instruction.TheConstants.{GET_DATA}
 use Rattle.policy_rules.specs.declared.request.Request.{Request}
 use Rattle.policy_slots.specs.declared.live.Place.{Place}
-use Rattle.policy_machine.specs.declared.channels.TheConstants.{CHANNELS}
 use Rattle.card_core.specs.declared.channel_session.ChannelSession.{ChannelSession}
+use Rattle.card_core.specs.declared.channels.Channels.{Channels}
 use Rattle.card_core.specs.declared.channel_session.ChannelSession.TheVariants as held
 use Rattle.card_core.proofs.serve.act.Goals as goal
 
@@ -23,69 +23,44 @@ is_asked channel request command place judged asks passed = record {
 
 -- a rule on the form of the command refuses it
 pub returns-in-Err-clause-done : goal.returns-in-Err-clause-done
-returns-in-Err-clause-done g c = λ page judged whole shown passed.
-    let stands = shown.on in
-    let at = passed.on in
-    let tables = c.args.records.now.tables in
-    let live = c.args.live.now in
-    let all = c.args.held.now in
+returns-in-Err-clause-done g c = λ page judged whole shows sound passed.
+    let card = kept_of c.args.records.now.tables c.args.channels.now in
+    let number = c.args.received.now.channel in
     let slot = c.args.received.now.selected in
-    let body = c.args.reply.now.items in
     let rule = c.in-Err.rule in
-    let place = c.from-at.ensures ∙ at in
-    let low = low page tables live all judged stands c.told-held c.args.received.now.channel slot c.requires.ready.channel at c.requires.ready.selected in
-    let here = held_there page tables live all judged stands c.told-held c.args.received.now.channel slot c.requires.ready.channel at c.requires.ready.selected
-    c.from-at.result c.index-held-at.result c.from-at.ensures in
+    let low = low page card judged shows sound number slot c.requires.ready.channel passed.on c.requires.ready.selected in
     let judges = c.in-Err.ensures.refused judged
-    (subst (λ (h : ChannelSession). RepresentsSecureChannel h (secure_channel_for judged)) (sym here) (stands.shows.holds judged.channel low)) passed.is in
-    let dropped = c.refuse.ensures.held
-    ∙ ap without_offer_held (read_at all c.from-at.result judged.channel c.index-held-at-in-Err.result c.told-held low place) in
-    rw c.requires.ready.unwritten (refused_carried page (record { tables = tables; live = live; held = all }) judged body rule c.args.received.now.channel c.from-at.result c.refuse.new.live c.refuse.new.held at place
-    c.refuse.ensures.live dropped
-    (refusal_carried page (record { tables = tables; live = live; held = all }) judged body (Err rule) rule refl
-    (record { held = c.told-held; channels = stands.sound.fits.channels }) low stands.shows judges c.requires.ready.empty)
-    c.args.loading.now.session shown.loading)
+    (holds_for page card judged shows sound number slot c.requires.ready.channel passed.on c.requires.ready.selected c.from-at.result c.index-channels-at.result c.from-at.ensures) passed.is in
+    refused_carried page c.args.records.now.tables c.args.channels.now c.refuse.new.self judged c.args.reply.now.items rule number passed.on c.refuse.ensures.refused
+    (rw c.requires.ready.unwritten (refusal_carried page card judged shows sound low c.args.reply.now.items (Err rule) rule refl judges c.requires.ready.empty))
 
 pub returns-in-Err-clause-kept : goal.returns-in-Err-clause-kept
 returns-in-Err-clause-kept g c = λ secured kinds.
-    session_kept c.args.held.now c.from-at.result c.args.received.now.channel c.refuse.new.held c.index-held-at-in-Err.result c.told-held c.requires.ready.channel c.from-at.ensures
-    c.refuse.ensures.held secured
+    ap (λ (k : Channels). k.sessions) c.refuse.ensures.refused ∙ session_kept c.args.channels.now.sessions c.args.received.now.channel secured
 
 -- any other is done, or refused
 pub perform-served-requires-clause-ready : goal.perform-served-requires-clause-ready
 perform-served-requires-clause-ready g c =
-    subst (λ (ins : ℕ). IsReady ins c.args.records.now c.args.live.now c.args.held.now c.args.loading.now c.args.received.now c.args.reply.now.items) c.in-Ok.ensures.asks.form.0 c.requires.ready
+    subst (λ (ins : ℕ). IsReady ins c.args.records.now c.args.channels.now c.args.received.now c.args.reply.now.items) c.in-Ok.ensures.asks.form.0 c.requires.ready
 
 pub perform-served-requires-clause-formed : goal.perform-served-requires-clause-formed
 perform-served-requires-clause-formed g c = (apdu_of c.args.command.now, c.in-Ok.ensures.asks, c.requires.short)
 
-pub perform-served-requires-clause-some : goal.perform-served-requires-clause-some
-perform-served-requires-clause-some g c = record { page = c.requires.passed.page; whole = c.requires.passed.whole; state = c.requires.passed.judged.at; shows = c.requires.passed.shows }
-
 pub returns-in-Err-served-clause-done : goal.returns-in-Err-served-clause-done
-returns-in-Err-served-clause-done g c = λ page judged whole stands passed.
-    let carried = c.in-Err-served.ensures.done page judged whole stands (is_asked c.args.received.now.channel c.in-Ok.request (apdu_of c.args.command.now) _ judged c.in-Ok.ensures.asks passed) in
-    let at = passed.on in
-    let all = c.perform-served.new.held in
-    let four : length c.perform-served.new.held ≡ CHANNELS = search rules in
-    let place = c.from-at.ensures ∙ at in
-    let dropped = c.refuse-in-Err-served.ensures.held
-    ∙ ap without_offer_held (read_at all c.from-at.result judged.channel c.index-held-at-in-Err-served.result four (subst (λ (n : ℕ). n < CHANNELS) at c.requires.ready.channel) place) in
-    (refused_carried (loaded page c.perform-served.new.loading.writes.items)
-    (record { tables = c.perform-served.new.records.tables; live = c.perform-served.new.live; held = all })
-    judged c.perform-served.new.reply.items c.in-Err-served.rule c.args.received.now.channel c.from-at.result c.refuse-in-Err-served.new.live c.refuse-in-Err-served.new.held at place
-    c.refuse-in-Err-served.ensures.live dropped carried.done c.perform-served.new.loading.session carried.loads)
+returns-in-Err-served-clause-done g c = λ page judged whole shows sound passed.
+    let carried = c.in-Err-served.ensures.done page judged whole shows sound (is_asked c.args.received.now.channel c.in-Ok.request (apdu_of c.args.command.now) _ judged c.in-Ok.ensures.asks passed) in
+    refused_carried page c.perform-served.new.records.tables c.perform-served.new.channels c.refuse-in-Err-served.new.self judged c.perform-served.new.reply.items c.in-Err-served.rule
+    c.args.received.now.channel passed.on c.refuse-in-Err-served.ensures.refused carried
 
 pub returns-in-Err-served-clause-kept : goal.returns-in-Err-served-clause-kept
 returns-in-Err-served-clause-kept g c = λ secured kinds.
     let same = c.in-Err-served.ensures.kept (subst (λ (ins : ℕ). (ins ≡ GET_DATA) ⊎ Contains managing ins) c.in-Ok.ensures.asks.form.0 kinds) in
-    let four : length c.perform-served.new.held ≡ CHANNELS = search rules in
-    session_kept c.perform-served.new.held c.from-at.result c.args.received.now.channel c.refuse-in-Err-served.new.held c.index-held-at-in-Err-served.result four c.requires.ready.channel c.from-at.ensures
-    c.refuse-in-Err-served.ensures.held (subst (λ (h : List ChannelSession). IsInSession (slice_index_or h c.args.received.now.channel held.Nothing)) (sym same) secured) ∙ same
+    ap (λ (k : Channels). k.sessions) c.refuse-in-Err-served.ensures.refused
+    ∙ session_kept c.perform-served.new.channels.sessions c.args.received.now.channel
+    (subst (λ (h : List ChannelSession). IsInSession (slice_index_or h c.args.received.now.channel held.Nothing)) (sym same) secured) ∙ same
 
 pub returns-in_default-clause-done : goal.returns-in_default-clause-done
-returns-in_default-clause-done g c = λ page judged whole stands passed.
-    let carried = c.perform-served.ensures.done page judged whole stands (is_asked c.args.received.now.channel c.in-Ok.request (apdu_of c.args.command.now) _ judged c.in-Ok.ensures.asks passed) in
-    done_carried (loaded page c.perform-served.new.loading.writes.items)
-    (record { tables = c.perform-served.new.records.tables; live = c.perform-served.new.live; held = c.perform-served.new.held }) judged
-    c.perform-served.new.reply.items c.perform-served.result c.perform-served.new.loading.session c.in_default.not-Err carried.done carried.loads
+returns-in_default-clause-done g c = λ page judged whole shows sound passed.
+    let carried = c.perform-served.ensures.done page judged whole shows sound (is_asked c.args.received.now.channel c.in-Ok.request (apdu_of c.args.command.now) _ judged c.in-Ok.ensures.asks passed) in
+    done_carried (loaded page c.perform-served.new.channels.loading.writes.items) (kept_of c.perform-served.new.records.tables c.perform-served.new.channels) judged
+    c.perform-served.new.reply.items c.perform-served.result c.in_default.not-Err carried

@@ -9,27 +9,27 @@ use Rattle.card_core.proofs.serve.pass.Goals as goal
 
 -- the card is terminated
 pub returns-in_err-check_class-clause-refused : goal.returns-in_err-check_class-clause-refused
-returns-in_err-check_class-clause-refused c page tables before all state bytes come life =
+returns-in_err-check_class-clause-refused c page card state bytes come life =
     let received = c.args.received.now in
     let over = c.in_err-check_class.ensures.over in
     handed_on c.from_residual.result c.in_err-check_class.field-0.0 _ c.from_residual.ensures.1
-    (over_barred page tables before all state bytes received c.args.live.now c.args.held.now come c.requires.known c.requires.class c.check_class.new.held c.in_err-check_class.ensures.lost
+    (over_barred page card state bytes received c.args.live.now c.args.held.now come c.requires.known c.requires.class c.check_class.new.held c.in_err-check_class.ensures.lost
     c.in_err-check_class.field-0.0 over.0 (subst (λ (l : CardLife). IsTerminatedFor l received.class received.command.ins) (sym life) over.1))
 
 -- card content management in plain
 pub returns-then-is_plain_management-clause-refused : goal.returns-then-is_plain_management-clause-refused
-returns-then-is_plain_management-clause-refused c page tables before all state bytes come life =
+returns-then-is_plain_management-clause-refused c page card state bytes come life =
     let received = c.args.received.now in
-    managed_barred page tables before all state bytes received c.args.live.now c.args.held.now come c.requires.known c.requires.class c.check_class.new.held c.in_ok-check_class.ensures.kept
+    managed_barred page card state bytes received c.args.live.now c.args.held.now come c.requires.known c.requires.class c.check_class.new.held c.in_ok-check_class.ensures.kept
     (subst (λ (l : CardLife). IsTerminatedFor l received.class received.command.ins → ⊥) (sym life) c.in_ok-check_class.ensures.ok)
     (is_managed (apdu_of received.command) received.class c.is_plain_management.result c.requires.class c.is_plain_management.ensures c.if-is_plain_management.true)
     c.end.new.self c.end.ensures c.end_load.new.self c.end_load.ensures
 
 -- any other command in plain
 pub returns-then-not-is_protected-clause-passed : goal.returns-then-not-is_protected-clause-passed
-returns-then-not-is_protected-clause-passed c page tables before all state bytes come life =
+returns-then-not-is_protected-clause-passed c page card state bytes come life =
     let received = c.args.received.now in
-    plain_passed page tables before all state bytes received c.args.live.now c.args.held.now come c.requires.known c.requires.class c.check_class.new.held c.in_ok-check_class.ensures.kept
+    plain_passed page card state bytes received c.args.live.now c.args.held.now come c.requires.known c.requires.class c.check_class.new.held c.in_ok-check_class.ensures.kept
     (subst (λ (l : CardLife). IsTerminatedFor l received.class received.command.ins → ⊥) (sym life) c.in_ok-check_class.ensures.ok)
     (protects_so (apdu_of received.command) received.class c.is_protected.result false c.requires.class c.is_protected.ensures c.if-not-is_protected.true)
     (not_managed (apdu_of received.command) received.class c.is_plain_management.result c.requires.class c.is_plain_management.ensures c.if-is_plain_management.false)
@@ -48,9 +48,9 @@ returns-then-not-is_protected-clause-selected c =
 
 -- a protected command that opens
 pub returns-in-Ok-clause-passed : goal.returns-in-Ok-clause-passed
-returns-in-Ok-clause-passed c page tables before all state bytes come life =
+returns-in-Ok-clause-passed c page card state bytes come life =
     let received = c.args.received.now in
-    opened_passed page tables before all state bytes received c.args.live.now c.args.held.now come c.requires.known c.requires.class c.check_class.new.held c.in_ok-check_class.ensures.kept
+    opened_passed page card state bytes received c.args.live.now c.args.held.now come c.requires.known c.requires.class c.check_class.new.held c.in_ok-check_class.ensures.kept
     (subst (λ (l : CardLife). IsTerminatedFor l received.class received.command.ins → ⊥) (sym life) c.in_ok-check_class.ensures.ok)
     (protects_so (apdu_of received.command) received.class c.is_protected.result true c.requires.class c.is_protected.ensures c.if-not-is_protected.false)
     c.open_command.new.held c.open_command.new.plain c.in-Ok.count c.in-Ok.ensures.opens c.pass_session-in-Ok.new.live c.pass_session-in-Ok.ensures
@@ -68,9 +68,9 @@ returns-in-Ok-clause-selected c =
 
 -- one that a rule on secure messaging refuses
 pub returns-in-Err-clause-refused : goal.returns-in-Err-clause-refused
-returns-in-Err-clause-refused c page tables before all state bytes come life =
+returns-in-Err-clause-refused c page card state bytes come life =
     let received = c.args.received.now in
-    unopened_barred page tables before all state bytes received c.args.live.now c.args.held.now come c.requires.known c.requires.class c.check_class.new.held c.in_ok-check_class.ensures.kept
+    unopened_barred page card state bytes received c.args.live.now c.args.held.now come c.requires.known c.requires.class c.check_class.new.held c.in_ok-check_class.ensures.kept
     (subst (λ (l : CardLife). IsTerminatedFor l received.class received.command.ins → ⊥) (sym life) c.in_ok-check_class.ensures.ok)
     (protects_so (apdu_of received.command) received.class c.is_protected.result true c.requires.class c.is_protected.ensures c.if-not-is_protected.false)
     c.open_command.new.held c.open_command.new.plain c.in-Err.rule c.in-Err.ensures.opens c.end_load-in-Err.new.self c.end_load-in-Err.ensures

@@ -1,6 +1,6 @@
 use Rattle.std.proofs.Common.{refl}
 use Rattle.gp_tool.proofs.MillEnding.{mill_failed, mill_refused, mill_whole, plays_all}
-use Rattle.gp_tool.proofs.RepresentsSoundly.{says_seen}
+use Rattle.gp_tool.proofs.CardStands.{says_seen}
 use Rattle.gp_tool.specs.Mill.{summary}
 use Rattle.gp_tool.proofs.mill_verb.mill_card.Goals as goal
 use Rattle.gp_tool.proofs.mill_verb.mill_card.Goals.{in-Ok+in-Ok-write_summary, in-Ok+in-Err-write_summary, in-Err}
@@ -20,14 +20,14 @@ returns-clause-ends g c first stands =
           (let milled = w.in-Ok.ensures.milled first stands in
           let counter = w.spell_counter-counter.result.items in
           let plays = plays_all F work made first end w.in-Ok.tally counter milled
-          (λ behind. w.spell_counter-counter.ensures behind.page milled.last.state.registry behind.whole (says_seen F end.card milled.last.state behind w.tables.result.now w.tables.ensures.tables) behind.on.sound.well) in
+          (λ behind. w.spell_counter-counter.ensures behind.page milled.last.state.registry behind.whole (says_seen F end.card milled.last.state behind w.tables.result.now w.tables.ensures.tables) behind.sound.well) in
           mill_whole F work made first K.tells end.card.flash end.done old (K.state w.write_summary.new.sink) last (rw w.sink-is at c.flush_at_end.ensures.same) w.write_summary.ensures.flushes
           (summary work w.in-Ok.tally counter) plays (λ told. rw (← w.deref.ensures.0) (w.in-Ok-write_summary.ensures.ok told)) result (rw (w.sink-is, w.ending-is) at c.flush_at_end.ensures.ending))
       | in-Ok+in-Err-write_summary w ↦
           (let milled = w.in-Ok.ensures.milled first stands in
           let counter = w.spell_counter-counter.result.items in
           let plays = plays_all F work made first end w.in-Ok.tally counter milled
-          (λ behind. w.spell_counter-counter.ensures behind.page milled.last.state.registry behind.whole (says_seen F end.card milled.last.state behind w.tables.result.now w.tables.ensures.tables) behind.on.sound.well) in
+          (λ behind. w.spell_counter-counter.ensures behind.page milled.last.state.registry behind.whole (says_seen F end.card milled.last.state behind w.tables.result.now w.tables.ensures.tables) behind.sound.well) in
           mill_refused F work made first K.tells end.card.flash end.done old (K.state w.write_summary.new.sink) last (rw w.sink-is at c.flush_at_end.ensures.same) w.write_summary.ensures.flushes
           (summary work w.in-Ok.tally counter) plays (λ told. rw (← w.deref.ensures.0) (w.in-Err-write_summary.ensures.err told)) result (rw (w.sink-is, w.ending-is) at c.flush_at_end.ensures.ending))
       | in-Err w ↦

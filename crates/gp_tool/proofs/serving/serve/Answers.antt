@@ -16,7 +16,7 @@ returns-clause-run g c state stands =
       ending = c.run-ending.result;
       ended = record { status_is = c.status.ensures; cause = c.run-ending.ensures.cause; flushes = c.run-ending.ensures.flushes };
       ends = ends;
-      apart = lines_keep_trees c.args.verb 1 course.given (start c.args.verb (powered_on state.registry)) course.last course.effect again.on.sound course.plays;
+      apart = lines_keep_trees c.args.verb 1 course.given (start c.args.verb (powered_on state.registry)) course.last course.effect again.sound course.plays;
     })
 
 pub returns-clause-never : goal.returns-clause-never

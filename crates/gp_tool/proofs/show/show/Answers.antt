@@ -1,6 +1,6 @@
 use Rattle.std.proofs.Common.{◌∙◌}
 use Rattle.std.proofs.lemmas.Result.{MatchResult-from_err}
-use Rattle.gp_tool.proofs.RepresentsSoundly.{says_seen}
+use Rattle.gp_tool.proofs.CardStands.{says_seen}
 use Rattle.gp_tool.proofs.ShownText.{all_shown, part_of_files, part_of_front, part_of_owned, written_of}
 use Rattle.gp_tool.proofs.show.show.Goals as goal
 

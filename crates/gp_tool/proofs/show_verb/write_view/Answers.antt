@@ -1,4 +1,4 @@
-use Rattle.gp_tool.proofs.RepresentsSoundly.{says_seen}
+use Rattle.gp_tool.proofs.CardStands.{says_seen}
 use Rattle.gp_tool.proofs.ViewWritten.{registry_part, registry_written, rights_part, rights_written}
 use Rattle.gp_tool.proofs.show_verb.write_view.Goals as goal
 

@@ -1,6 +1,6 @@
 use Rattle.std.proofs.Common.{◌≡◌, Some, sym, ap, subst, ◌∙◌}
 use Rattle.std.specs.Prelude.{IfSome}
-use Rattle.card_core.specs.Prelude.{AreCards, IsInLoadPages, RepresentsSome, held, load_page, stored}
+use Rattle.card_core.specs.Prelude.{AreCards, IsInLoadPages, RepresentsSome, held, kept_of, load_page, stored}
 use Rattle.rec_store.proofs.Reopening.{has_pages}
 use Rattle.rec_store.proofs.Roomy.{of_slot}
 use Rattle.card_core.proofs.Over.{reading, spare_over}
@@ -27,7 +27,7 @@ invariant_of-self g c =
           writes = was.0.writes;
           spare = λ told. rw (read.tables) (spare_over g.F.Flash c.self.inside.records.flash c.digest_of.new.records.flash c.self.inside.records.tables (read.seen told) (was.0.spare told));
         },
-        subst (λ t. RepresentsSome (record { tables = t; live = c.self.inside.volatile; held = c.self.inside.held }) c.self.inside.loading.session) (sym read.tables) was.1,
+        subst (λ t. RepresentsSome (kept_of t c.self.inside.channels)) (sym read.tables) was.1,
       )),
     )
 
@@ -54,8 +54,8 @@ returns-in-Ok-clause-stands g c state stood =
       live = stands.live;
       page = stands.page;
       whole = stands.whole;
-      on = rw read.tables stands.on;
-      loading = rw read.tables stands.loading;
+      shows = rw read.tables stands.shows;
+      sound = stands.sound;
       load = λ told. ap load_page (read.seen told) ∙ stands.load told;
       keeps = λ told. read.keeps told state.registry (stands.keeps told);
     }

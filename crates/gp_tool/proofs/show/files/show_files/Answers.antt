@@ -6,7 +6,7 @@ use Rattle.card_types.specs.declared.tables.Tables.{Tables}
 use Rattle.flash_core.specs.declared.page.Page.{Page}
 use Rattle.rec_store.specs.Reopens.{Reopens, load_page}
 use Rattle.gp_tool.proofs.FilesInOrder.{file_found, file_order_total, files_sorted, no_file_found}
-use Rattle.gp_tool.proofs.RepresentsSoundly.{says_told, still_leaves}
+use Rattle.gp_tool.proofs.CardStands.{says_told, still_leaves}
 use Rattle.rec_store.proofs.Leaving.{joined}
 use Rattle.gp_tool.proofs.Written.{all_written, enough_written, next_written, none_written, part_of_lines}
 use Rattle.gp_tool.specs.Show.{file_line}
@@ -94,5 +94,5 @@ returns-in-None-clause-written g c told state stands =
 pub returns-clause-written : goal.returns-clause-written
 returns-clause-written g c told state stands =
     let past = c.loop-test.false in
-    let few = stands.on.sound.well.few_files in
+    let few = stands.sound.well.few_files in
     enough_written (c.loop.invariant.written told state stands) (omega (arith, few, past))

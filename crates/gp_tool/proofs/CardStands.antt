@@ -15,11 +15,11 @@ module _ {F : Type 0} (device : Flash F) (card : CardOver F) (state : State)
   -- its tables say the registry, over its own load pages
   pub says_told : device.tells → Represents (load_page (device.pages card.flash)) card.tables state.registry
   says_told told =
-      subst (λ (page : ℕ → List ℕ). Represents page card.tables state.registry) (sym (stands.load told)) stands.on.shows.says.registry
+      subst (λ (page : ℕ → List ℕ). Represents page card.tables state.registry) (sym (stands.load told)) stands.shows.says.registry
 
   -- tables that are the same say the registry, over the pages that the card shows
   pub says_seen : (seen : Tables) → seen ≡ card.tables → Represents stands.page seen state.registry
-  says_seen seen same = subst (λ (tables : Tables). Represents stands.page tables state.registry) (sym same) stands.on.shows.says.registry
+  says_seen seen same = subst (λ (tables : Tables). Represents stands.page tables state.registry) (sym same) stands.shows.says.registry
 
   -- where no call was made, power lost leaves the registry
   pub still_leaves : ((flash : F) (outcome : List Page) → device.tells → device.left_since flash (device.moment flash) outcome → device.may_leave flash outcome) → device.tells
