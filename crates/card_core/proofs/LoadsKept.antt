@@ -1,7 +1,7 @@
 -- What is kept of the load session, while other commands come.
-use Rattle.std.proofs.Common.{◌≡◌, ◌≢◌, ◌⊎◌, ℕ, List, [], Bool, true, false, Option, None, Some, Result, Ok, Err, refl, sym, subst, ◌∙◌, inl, inr, arith}
+use Rattle.std.proofs.Common.{◌≡◌, ℕ, List, [], Bool, true, false, Option, None, Some, Result, Ok, Err, refl, sym, subst, ◌∙◌}
 use Rattle.std.specs.Prelude.{All, IfSome, MatchOption, if◌then◌else◌, ◌==◌}
-use Rattle.card_core.specs.Prelude.{Admitted, Apdu, AreFree, AreSpare, AsksForLoad, IsDomainNamed, IsFree, IsLoadNamed, IsRequestOf, IsSound, IsSpare, IsWellLoad, Judges, KeepsAid, KeepsFree, KeepsSelected, LoadSession, LoadsAs, RepresentsLoading, RepresentsState, State, domain_aid, load_slot, load_without_channel, numbers}
+use Rattle.card_core.specs.Prelude.{Admitted, AreFree, AreSpare, IsDomainNamed, IsFree, IsLoadNamed, IsSound, IsSpare, IsWellLoad, Judges, KeepsAid, KeepsFree, KeepsSelected, LoadSession, LoadsAs, RepresentsLoading, RepresentsState, State, domain_aid, load_slot, load_without_channel, numbers}
 use Rattle.apdu_core.specs.declared.reply.Status.{Status}
 use Rattle.card_types.proofs.Domains.{domain_aid_is, domain_named_is_used}
 use Rattle.card_types.proofs.EntryNames.{one_entry_slot}
@@ -12,14 +12,10 @@ use Rattle.load_session.proofs.Stays.{session_stays}
 use Rattle.load_session.specs.declared.load_write.LoadWrite.{LoadWrite}
 use Rattle.std.proofs.lemmas.List.Elements.{All-contains}
 use Rattle.load_session.specs.declared.session.LoadSession.{LoadSession as Kept}
-use Rattle.policy_machine.specs.declared.instruction.TheConstants.{INSTALL, LOAD}
 use Rattle.policy_machine.specs.declared.rule.Rule.{Rule}
-use Rattle.policy_rules.specs.declared.request.Request.{Request}
-use Rattle.policy_rules.specs.declared.request.Request.TheVariants.{Select, MoreChannel, LessChannel, Get, Initialize, Authenticate, PutKey, Store, DeleteKey, DeleteObject, Install, MakeSelectable, Extradite, InstallLoad, CardStatus, EntryStatus, Load, List as ListStatus}
 use Rattle.policy_slots.specs.declared.live.Live.{Live}
 use Rattle.policy_slots.specs.declared.live.LoadName.{LoadName}
 use Rattle.std.specs.Result.{IsErrAnd}
-use Rattle.policy_machine.proofs.Lawful.{IsLoading}
 
 -- the load session of a channel has ended
 pub ended_loading : (page : ℕ → List ℕ) (tables : Tables) (loading : Option Kept) (number : ℕ) (load : Option LoadSession) → RepresentsLoading page tables loading load
@@ -30,41 +26,6 @@ ended_loading page tables loading number (Some load) is = by (load.channel == nu
     by : (ends : Bool) → RepresentsLoading page tables loading (if ends then None else Some load)
     by true = tt
     by false = is
-
--- an instruction other than LOAD and INSTALL
-pub loads_not : (command : Apdu) (byte : ℕ) → command.ins ≡ byte → byte ≢ LOAD → byte ≢ INSTALL → IsLoading command → ⊥
-loads_not command byte is no_load no_install (inl loads) = no_load (sym is ∙ loads)
-loads_not command byte is no_load no_install (inr installs) = no_install (sym is ∙ installs.0)
-
--- INSTALL in another form
-pub installs_not : (command : Apdu) (p1 : ℕ) → command.ins ≡ INSTALL → command.p1 ≡ p1 → (p1 ≡ 0x02 → ⊥) → IsLoading command → ⊥
-installs_not command p1 is form other (inl loads) = absurd (omega (arith, is, loads))
-installs_not command p1 is form other (inr installs) = other (sym form ∙ installs.1)
-
-pub other_install : (command : Apdu) → command.ins ≡ INSTALL → (command.p1 ≡ 0x04) ⊎ (command.p1 ≡ 0x0C) → IsLoading command → ⊥
-other_install command is (inl four) = installs_not command 0x04 is four (λ e. absurd (omega (arith, e)))
-other_install command is (inr twelve) = installs_not command 0x0C is twelve (λ e. absurd (omega (arith, e)))
-
--- a command that asks for something else
-pub not_loading : (request : Request) → (AsksForLoad request → ⊥) → (command : Apdu) → IsRequestOf request command → IsLoading command → ⊥
-not_loading (Select partial) other command is = loads_not command 0xA4 is.form.0 (λ e. absurd (omega (arith, e))) (λ e. absurd (omega (arith, e)))
-not_loading MoreChannel other command is = loads_not command 0x70 is.form.0 (λ e. absurd (omega (arith, e))) (λ e. absurd (omega (arith, e)))
-not_loading (LessChannel number) other command is = loads_not command 0x70 is.form.0 (λ e. absurd (omega (arith, e))) (λ e. absurd (omega (arith, e)))
-not_loading (Get tag) other command is = loads_not command 0xCA is.form.0 (λ e. absurd (omega (arith, e))) (λ e. absurd (omega (arith, e)))
-not_loading (Initialize version challenge) other command is = loads_not command 0x50 is.form.0 (λ e. absurd (omega (arith, e))) (λ e. absurd (omega (arith, e)))
-not_loading (Authenticate level proof) other command is = loads_not command 0x82 is.form.0 (λ e. absurd (omega (arith, e))) (λ e. absurd (omega (arith, e)))
-not_loading (PutKey replaced version keys) other command is = loads_not command 0xD8 is.form.0 (λ e. absurd (omega (arith, e))) (λ e. absurd (omega (arith, e)))
-not_loading (Store objects) other command is = loads_not command 0xE2 is.form.0 (λ e. absurd (omega (arith, e))) (λ e. absurd (omega (arith, e)))
-not_loading (DeleteKey version identifier) other command is = loads_not command 0xE4 is.form.0 (λ e. absurd (omega (arith, e))) (λ e. absurd (omega (arith, e)))
-not_loading (DeleteObject deletion) other command is = loads_not command 0xE4 is.form.0 (λ e. absurd (omega (arith, e))) (λ e. absurd (omega (arith, e)))
-not_loading (Install install) other command is = other_install command is.form.0 is.form.1.0
-not_loading (MakeSelectable selecting) other command is = installs_not command 0x08 is.form.0 is.form.1.0 (λ e. absurd (omega (arith, e)))
-not_loading (Extradite move) other command is = installs_not command 0x10 is.form.0 is.form.1.0 (λ e. absurd (omega (arith, e)))
-not_loading (InstallLoad load) other command is = absurd (other tt)
-not_loading (CardStatus code) other command is = loads_not command 0xF0 is.form.0 (λ e. absurd (omega (arith, e))) (λ e. absurd (omega (arith, e)))
-not_loading (EntryStatus status) other command is = loads_not command 0xF0 is.form.0 (λ e. absurd (omega (arith, e))) (λ e. absurd (omega (arith, e)))
-not_loading (Load load) other command is = absurd (other tt)
-not_loading (ListStatus list) other command is = loads_not command 0xF2 is.form.0 (λ e. absurd (omega (arith, e))) (λ e. absurd (omega (arith, e)))
 
 -- other tables, in which the security domain has the same AID
 pub over_loading : (page : ℕ → List ℕ) (tables tables' : Tables) (loading : Option Kept) (load : Option LoadSession) → KeepsFree tables tables'

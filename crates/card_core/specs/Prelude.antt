@@ -27,7 +27,7 @@ pub use Rattle.card_core.specs.Passes.{Bars, ForCome, HasCome, IsOpenedIn, Passe
 pub use Rattle.card_core.specs.PowerOn.{PowerFails}
 pub use Rattle.card_core.specs.Ready.{IsReady}
 pub use Rattle.card_core.specs.Secured.{OpensAs}
-pub use Rattle.card_core.specs.Serves.{AsksForLoad, CarriesOut, CarriesOutBut, IsAsked, IsPassed, IsTerminatedFor, Serves, refused_at, rule_of, status_word}
+pub use Rattle.card_core.specs.Serves.{CarriesOut, CarriesOutBut, IsAsked, IsPassed, IsTerminatedFor, Serves, refused_at, rule_of, status_word}
 pub use Rattle.card_core.specs.ShownParts.{EndsAt, IsPart}
 pub use Rattle.card_core.specs.StatusChanges.{MakesChange, SaysChange, StagesOthers}
 pub use Rattle.card_types.specs.Aid.{IsAid, same_aid}

@@ -17,7 +17,6 @@ use Rattle.policy_machine.specs.declared.rule.Rule.{Rule}
 use Rattle.policy_rules.specs.GetStatusRequests.{IsPlaceBefore}
 use Rattle.policy_rules.specs.Requests.{IsRequestOf, form_in}
 use Rattle.policy_rules.specs.declared.request.Request.{Request}
-use Rattle.policy_rules.specs.declared.request.Request.TheVariants.{InstallLoad, Load}
 use Rattle.policy_slots.specs.declared.live.Place.{Place}
 use Rattle.card_core.specs.ChannelEnds.{live_refused}
 use Rattle.card_core.specs.Kept.{held_on, without_offer_held, Kept, KeptRepresents, kept_set}
@@ -38,12 +37,6 @@ pub record IsAsked (channel : ℕ) (request : Request) (place : Option Place) (j
   pub on : channel ≡ judged.channel
   pub asks : IsRequestOf request judged.command
   pub goes_on : (form_in request).instruction ≡ GET_STATUS → IsPlaceBefore place judged
-
--- INSTALL [for load] or LOAD is asked for
-abbrev pub AsksForLoad : Request → Type 0
-AsksForLoad (InstallLoad request) = Unit {0}
-AsksForLoad (Load request) = Unit {0}
-AsksForLoad request = ⊥
 
 -- no rule of its own refused an admitted command, and it did what it does
 abbrev pub IsDone : (ℕ → List ℕ) → Admitted → Kept → List ℕ → Status → Type 0

@@ -37,9 +37,9 @@ returns-clause-done c page admitted acts says channels on request =
       channels = refl;
       says = subst (λ (l : Live). RepresentsState page c.args.tables.now l after) (sym c.begin_load.ensures)
           (record { registry = says.registry; selected = says.selected; places = says.places; load = (on, is.file, domain, refl) });
-      kept = subst (λ (l : LoadSession). RepresentsLoad page c.args.tables.now c.begin.result l)
+      kept = subst (λ (l : LoadSession). RepresentsLoad page c.args.tables.now c.begin-session.result l)
           (λ i. record { channel = on i; aid = is.file i; domain = domain i; hash = hash i; announced = None; bytes = []; blocks = 0 })
-          (c.begin.ensures.stands page c.args.tables.now c.args.channel);
+          (c.begin-session.ensures.stands page c.args.tables.now c.args.channel);
       body_is = search rules;
       status_is = refl;
     }
