@@ -43,6 +43,7 @@ impl Channels {
     pub fn set_channel(&mut self, channel: u8, selected: Option<u8>)
         requires { channel < CHANNELS }
         ensures set { self.new ≡ channels_with self.old channel selected }
+        ensures loading { self.new.loading ≡ self.old.loading }
         ensures four { length self.old.live.selected ≡ CHANNELS }
         ensures sessions { length self.old.sessions ≡ CHANNELS }
     {

@@ -35,6 +35,7 @@ pub fn close_channel(channels: &mut Channels, number: u8) -> Answer
     requires high { number < CHANNELS }
     ensures done { (tables : Tables) → ForKept (kept_of tables channels.old) (λ page admitted. IsRequestOf (LessChannel number) admitted.command
         → CarriesOutBut page admitted (kept_of tables channels.new) [] result) }
+    ensures writes { channels.new.loading.writes ≡ channels.old.loading.writes }
 {
     if channels.live.selected[usize::from(number)].is_none() {
         return Ok(Status(0x6200));

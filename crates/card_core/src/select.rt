@@ -59,6 +59,7 @@ pub fn select(
     requires empty { reply.old.items ≡ [] }
     ensures done { ForKept (kept_of tables.now channels.old) (λ page admitted. channel ≡ admitted.channel → IsRequestOf (Select partial.entry) admitted.command
         → CarriesOutBut page admitted (kept_of tables.now channels.new) reply.new.items result) }
+    ensures writes { channels.new.loading.writes ≡ channels.old.loading.writes }
     ensures room { length reply.new.items ≤ DATA_LIMIT }
 {
     match judge_select(tables, partial) {

@@ -17,7 +17,7 @@ pub select-requires-clause-in_order : goal.select-requires-clause-in_order
 select-requires-clause-in_order g c = subst IsInOrder (sym c.tables.ensures.tables) (in_order c.args.records.now.tables c.requires.ready.cards)
 
 pub returns-in-Select-clause-done : goal.returns-in-Select-clause-done
-returns-in-Select-clause-done g c = rw c.requires.ready.unwritten (λ page judged whole shows sound asked.
+returns-in-Select-clause-done g c = rw (c.select.ensures.writes, c.requires.ready.unwritten) (λ page judged whole shows sound asked.
     (rw c.tables.ensures.tables at c.select.ensures.done) page judged whole shows sound asked.on (asks_as c.args.request.now _ judged.command c.in-Select.is asked.asks))
 
 -- MANAGE CHANNEL
@@ -28,7 +28,7 @@ returns-in-MoreChannel-clause-done g c = rw c.requires.ready.unwritten (λ page 
     (asks_as c.args.request.now _ judged.command c.in-MoreChannel.is asked.asks))
 
 pub returns-in-LessChannel-clause-done : goal.returns-in-LessChannel-clause-done
-returns-in-LessChannel-clause-done g c = rw c.requires.ready.unwritten (λ page judged whole shows sound asked.
+returns-in-LessChannel-clause-done g c = rw (c.close_channel.ensures.writes, c.requires.ready.unwritten) (λ page judged whole shows sound asked.
     rw c.requires.ready.empty (c.close_channel.ensures.done c.args.records.now.tables page judged whole shows sound
     (asks_as c.args.request.now _ judged.command c.in-LessChannel.is asked.asks)))
 
