@@ -1,5 +1,5 @@
 -- For the code inside. What a card keeps of its channels: how it begins, and what a channel gets or loses.
-use Rattle.std.specs.Prelude.{ℕ, List, [], ◌∷◌, Option, slice_index_or, slice_set, if◌then◌else◌, ◌==◌}
+use Rattle.std.specs.Prelude.{ℕ, List, [], ◌∷◌, Option, slice_set, if◌then◌else◌, ◌==◌}
 use Rattle.policy_machine.specs.Step.{keeps_load}
 use Rattle.policy_machine.specs.declared.instruction.TheConstants.{LOAD}
 use Rattle.policy_machine.specs.declared.rule.Rule.{Rule}
