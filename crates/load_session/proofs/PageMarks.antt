@@ -13,14 +13,15 @@ use Rattle.card_types.specs.declared.limits.TheConstants.{LOAD_PAGES}
 use Rattle.card_types.specs.declared.tables.LoadFile.{LoadFile}
 use Rattle.card_types.specs.declared.tables.Tables.{Tables}
 use Rattle.load_session.proofs.PagesInUse.{named_among, used_next, used_pass}
+use Rattle.page_journal.proofs.PageKinds.{load_page_at}
 
 -- a page that is no load page has no mark
 pub marks_pass : (marks : List Bool) (before : List ℕ) (page : ℕ) → HasMarks marks before → (IsLoadPage page → ⊥) → HasMarks marks (before ++ page ∷ [])
 marks_pass marks before page has other = record {
   whole = has.whole;
   at = λ place within. (
-    λ marked. Contains-append_left before (page ∷ []) (96 + place) ((has.at place within).0 marked),
-    λ there. (has.at place within).1 (elim (Contains-push_cases before page (96 + place) there) [
+    λ marked. Contains-append_left before (page ∷ []) (load_page_at place) ((has.at place within).0 marked),
+    λ there. (has.at place within).1 (elim (Contains-push_cases before page (load_page_at place) there) [
       | inl earlier ↦ earlier
       | inr last ↦ absurd (other (omega (arith, last), omega (arith, last, within)))
     ]),
@@ -57,18 +58,18 @@ named_of (first ∷ rest) page there = elim (Contains-append_cases (pages_named 
 
 -- where the marks stand at the pages that are in use
 module _ (tables : Tables) (taken : List ℕ) (marks : List Bool) (has : HasMarks marks (all_pages tables.files.items ++ taken)) (place : ℕ) (within : place < LOAD_PAGES) where
-  pub marked_in_use : slice_index_or marks place false ≡ true → IsPageInUse tables taken (96 + place)
-  marked_in_use marked = elim (Contains-append_cases (all_pages tables.files.items) taken (96 + place) ((has.at place within).0 marked)) [
-    | inl named ↦ inl (named_of (used tables.files.items) (96 + place) named)
+  pub marked_in_use : slice_index_or marks place false ≡ true → IsPageInUse tables taken (load_page_at place)
+  marked_in_use marked = elim (Contains-append_cases (all_pages tables.files.items) taken (load_page_at place) ((has.at place within).0 marked)) [
+    | inl named ↦ inl (named_of (used tables.files.items) (load_page_at place) named)
     | inr there ↦ inr there
   ]
 
-  unmarked : slice_index_or marks place false ≡ false → Contains (all_pages tables.files.items ++ taken) (96 + place) → ⊥
+  unmarked : slice_index_or marks place false ≡ false → Contains (all_pages tables.files.items ++ taken) (load_page_at place) → ⊥
   unmarked none there = false≢true (sym none ∙ (has.at place within).1 there)
 
-  pub unmarked_free : slice_index_or marks place false ≡ false → IsFree tables (96 + place)
-  unmarked_free none = all_of_members (λ (file : LoadFile). Contains (pages_named file) (96 + place) → ⊥) (used tables.files.items)
-      (λ file there named. unmarked none (Contains-append_left (all_pages tables.files.items) taken (96 + place) (named_among (used tables.files.items) file (96 + place) there named)))
+  pub unmarked_free : slice_index_or marks place false ≡ false → IsFree tables (load_page_at place)
+  unmarked_free none = all_of_members (λ (file : LoadFile). Contains (pages_named file) (load_page_at place) → ⊥) (used tables.files.items)
+      (λ file there named. unmarked none (Contains-append_left (all_pages tables.files.items) taken (load_page_at place) (named_among (used tables.files.items) file (load_page_at place) there named)))
 
-  pub unmarked_apart : slice_index_or marks place false ≡ false → Contains taken (96 + place) → ⊥
-  unmarked_apart none there = unmarked none (Contains-append_right (all_pages tables.files.items) taken (96 + place) there)
+  pub unmarked_apart : slice_index_or marks place false ≡ false → Contains taken (load_page_at place) → ⊥
+  unmarked_apart none there = unmarked none (Contains-append_right (all_pages tables.files.items) taken (load_page_at place) there)

@@ -1,5 +1,5 @@
 -- Which load pages are in use, and how many.
-use Rattle.std.proofs.Common.{◌≡◌, inl, inr, ℕ, ◌+◌, ◌-◌, ◌<◌, ◌≤◌, List, [], ◌∷◌, ◌++◌, length, take, get_or, Option, None, Some, ap, sym, subst, ◌∙◌, length-append, arith}
+use Rattle.std.proofs.Common.{◌≡◌, inl, inr, ℕ, ◌+◌, ◌<◌, ◌≤◌, List, [], ◌∷◌, ◌++◌, length, take, get_or, Option, None, Some, ap, sym, subst, ◌∙◌, length-append, arith}
 use Rattle.std.specs.Prelude.{Contains, map}
 use Rattle.std.specs.List.{concat, sum_by}
 use Rattle.std.proofs.lemmas.List.{append-nil, length-map, length-take, take_more}
@@ -14,6 +14,7 @@ use Rattle.card_types.proofs.Members.{contains_cases, contains_map}
 use Rattle.card_types.specs.declared.limits.TheConstants.{LOAD_PAGES}
 use Rattle.card_types.specs.declared.tables.LoadFile.{LoadFile}
 use Rattle.card_types.specs.declared.tables.Tables.{Tables}
+use Rattle.page_journal.proofs.PageKinds.{IsOnDevice, IsPastJournal, load_page_at, place_among}
 
 -- one slot more
 module _ {T : Type 0} (slots : List (Option T)) (i : ℕ) (within : i < length slots) where
@@ -70,19 +71,19 @@ module _ (tables : Tables) (taken : List ℕ) where
   in_use_has page (inr there) = Contains-append_right (named_by (used tables.files.items)) taken page there
 
   -- where each load page is in use, there are as many as that
-  pub all_in_use : ((page : ℕ) → 96 ≤ page → page < 608 → IsPageInUse tables taken page) → LOAD_PAGES ≤ pages_in tables + length taken
+  pub all_in_use : ((page : ℕ) → IsPastJournal page → IsOnDevice page → IsPageInUse tables taken page) → LOAD_PAGES ≤ pages_in tables + length taken
   all_in_use each =
-      let from_first : List ℕ = map (λ page. page - 96) in_use in
-      let has = λ (place : ℕ) (below : place < 512). (
-      let there = contains_map (λ (page : ℕ). page - 96) in_use (96 + place) (in_use_has (96 + place) (each (96 + place) (omega arith) (omega (arith, below)))) in
-      let is : 96 + place - 96 ≡ place = omega arith in
+      let from_first : List ℕ = map place_among in_use in
+      let has = λ (place : ℕ) (below : place < LOAD_PAGES). (
+      let there = contains_map place_among in_use (load_page_at place) (in_use_has (load_page_at place) (each (load_page_at place) (omega arith) (omega (arith, below)))) in
+      let is : place_among (load_page_at place) ≡ place = omega arith in
       list_any-from_Contains nat_eq_equiv place from_first (subst (Contains from_first) is there)) in
-      let many = le-length_from_below from_first 512 has in
-      omega (arith, many, length-map in_use (λ (page : ℕ). page - 96), length-append (named_by (used tables.files.items)) taken, few_named (used tables.files.items))
+      let many = le-length_from_below from_first LOAD_PAGES has in
+      omega (arith, many, length-map in_use place_among, length-append (named_by (used tables.files.items)) taken, few_named (used tables.files.items))
 
 -- with one page more
-pub in_use_next : (tables : Tables) (taken : List ℕ) (next : ℕ) → ((page : ℕ) → 96 ≤ page → page < next → IsPageInUse tables taken page) → IsPageInUse tables taken next
-    → (page : ℕ) → 96 ≤ page → page < next + 1 → IsPageInUse tables taken page
+pub in_use_next : (tables : Tables) (taken : List ℕ) (next : ℕ) → ((page : ℕ) → IsPastJournal page → page < next → IsPageInUse tables taken page) → IsPageInUse tables taken next
+    → (page : ℕ) → IsPastJournal page → page < next + 1 → IsPageInUse tables taken page
 in_use_next tables taken next before here page from below = elim (cases_lt page next) [
   | inl less ↦ before page from less
   | inr not ↦ (let is : next ≡ page = omega (arith, not, below) in subst (IsPageInUse tables taken) is here)

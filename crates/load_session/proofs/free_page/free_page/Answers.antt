@@ -6,6 +6,8 @@ use Rattle.load_session.specs.Prelude.{IsFree, IsPageInUse, all_pages}
 use Rattle.card_types.specs.declared.limits.TheConstants.{LOAD_PAGES}
 use Rattle.load_session.proofs.PageMarks.{marked_in_use, unmarked_apart, unmarked_free}
 use Rattle.load_session.proofs.PagesInUse.{all_in_use, in_use_next}
+use Rattle.flash_core.specs.declared.page.TheConstants.{PAGES}
+use Rattle.page_journal.proofs.PageKinds.{IsPastJournal, load_page_at}
 use Rattle.load_session.proofs.free_page.free_page.Goals as goal
 
 pub mark_files-requires-clause-none : goal.mark_files-requires-clause-none
@@ -20,17 +22,17 @@ loop-marks-preserved c =
     let load = c.loop-marks.invariant.is in
     let has = c.mark.ensures (all_pages tables.files.items) c.mark_files.ensures in
     let within : c.from.result < LOAD_PAGES = omega (arith, c.from.ensures, load.0, load.1) in
-    let at : 96 + c.from.result ≡ page = omega (arith, c.from.ensures, load.0) in
-    let used : (p : ℕ) → 96 ≤ p → p < page + 1 → IsPageInUse tables taken p = in_use_next tables taken page c.loop-marks.invariant.used
+    let at : load_page_at c.from.result ≡ page = omega (arith, c.from.ensures, load.0) in
+    let used : (p : ℕ) → IsPastJournal p → p < page + 1 → IsPageInUse tables taken p = in_use_next tables taken page c.loop-marks.invariant.used
     (subst (IsPageInUse tables taken) at (marked_in_use tables taken c.mark.new.marks has c.from.result within c.loop-marks-test.true)) in
-    let last : (607 ≤ page) → page + 1 < 608 = λ high. absurd
+    let last : PAGES ≤ page + 1 → ⊥ = λ high.
     (let many = all_in_use tables taken (λ p from below. used p from (omega (arith, below, high))) in omega (arith, many, c.requires.room)) in
     record {
       is = (
         omega (arith, load.0),
-        elim (cases_lt page 607) [
-          | inl low ↦ omega (arith, low)
-          | inr high ↦ last high
+        elim (cases_lt (page + 1) PAGES) [
+          | inl low ↦ low
+          | inr high ↦ absurd (last high)
         ],
       );
       used = used;
@@ -42,7 +44,7 @@ returns-clause-free c =
     let load = c.loop-marks.invariant.is in
     let has = c.mark.ensures (all_pages tables.files.items) c.mark_files.ensures in
     let within : c.from.result < LOAD_PAGES = omega (arith, c.from.ensures, load.0, load.1) in
-    let at : 96 + c.from.result ≡ c.loop-marks.page = omega (arith, c.from.ensures, load.0) in
+    let at : load_page_at c.from.result ≡ c.loop-marks.page = omega (arith, c.from.ensures, load.0) in
     subst (IsFree tables) at (unmarked_free tables c.args.taken.now c.mark.new.marks has c.from.result within c.loop-marks-test.false)
 
 pub returns-clause-apart : goal.returns-clause-apart
@@ -51,5 +53,5 @@ returns-clause-apart c =
     let load = c.loop-marks.invariant.is in
     let has = c.mark.ensures (all_pages tables.files.items) c.mark_files.ensures in
     let within : c.from.result < LOAD_PAGES = omega (arith, c.from.ensures, load.0, load.1) in
-    let at : 96 + c.from.result ≡ c.loop-marks.page = omega (arith, c.from.ensures, load.0) in
+    let at : load_page_at c.from.result ≡ c.loop-marks.page = omega (arith, c.from.ensures, load.0) in
     subst (λ (page : ℕ). Contains c.args.taken.now page → ⊥) at (unmarked_apart tables c.args.taken.now c.mark.new.marks has c.from.result within c.loop-marks-test.false)
