@@ -80,7 +80,9 @@ fn derivations(count: u32) -> [u8; 16] {
     context
 }
 
-fn encryptions(size: usize, count: u32) -> [u8; 16]
+// CBC over one message again and again. What comes of it gives the next chaining value: its last block where it is enciphered, else its
+// first.
+fn chained(size: usize, count: u32, enciphers: bool) -> [u8; 16]
     requires some { 16 ≤ size }
     requires most { size ≤ 16384 }
     requires whole { size % 16 ≡ 0 }
@@ -89,23 +91,13 @@ fn encryptions(size: usize, count: u32) -> [u8; 16]
     let mut message = [0x5a; MOST];
     let mut chain = [0; 16];
     for _ in 0..count {
-        cbc_seal_blocks(&key, &chain, &mut message[..size]);
-        chain.copy_from_slice(&message[size - 16..size]);
-    }
-    chain
-}
-
-fn decryptions(size: usize, count: u32) -> [u8; 16]
-    requires some { 16 ≤ size }
-    requires most { size ≤ 16384 }
-    requires whole { size % 16 ≡ 0 }
-{
-    let key = Aes128::from_key(&KEY);
-    let mut message = [0x5a; MOST];
-    let mut chain = [0; 16];
-    for _ in 0..count {
-        cbc_unseal_blocks(&key, &chain, &mut message[..size]);
-        chain.copy_from_slice(&message[..16]);
+        if enciphers {
+            cbc_seal_blocks(&key, &chain, &mut message[..size]);
+            chain.copy_from_slice(&message[size - 16..size]);
+        } else {
+            cbc_unseal_blocks(&key, &chain, &mut message[..size]);
+            chain.copy_from_slice(&message[..16]);
+        }
     }
     chain
 }
@@ -134,8 +126,8 @@ pub fn checksum(call: &str, size: usize, count: u32) -> Option<u128> {
         "cmac" => codes(size, count),
         "new-cmac" => new_codes(size, count),
         "derive" => derivations(count),
-        "cbc-seal" => encryptions(size, count),
-        "cbc-unseal" => decryptions(size, count),
+        "cbc-seal" => chained(size, count, true),
+        "cbc-unseal" => chained(size, count, false),
         "session" => sessions::<SealingAes128>(count),
         "both-session" => sessions::<Aes128>(count),
         _ => return None,

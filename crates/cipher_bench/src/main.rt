@@ -9,26 +9,28 @@ mod session;
 use std::env;
 use std::process::ExitCode;
 
+// The checksum that three words ask for, where there is no fourth.
+fn asked(
+    call: Option<String>,
+    size: Option<String>,
+    count: Option<String>,
+    more: Option<String>,
+) -> Option<u128> {
+    let (call, size, count) = (call?, size?, count?);
+    if more.is_some() {
+        return None;
+    }
+    let size = size.as_str().parse().ok()?;
+    let count = count.as_str().parse().ok()?;
+    calls::checksum(call.as_str(), size, count)
+}
+
 fn main(rt: HostRuntime) -> ExitCode {
     let Ok(mut words) = env::args(&rt) else {
         return ExitCode::from(1);
     };
     let _program = words.next();
-    let (Some(call), Some(size), Some(count), None) = (
-        words.next(),
-        words.next(),
-        words.next(),
-        words.next(),
-    ) else {
-        return ExitCode::from(1);
-    };
-    let (Ok(size), Ok(count)) = (
-        size.as_str().parse::<usize>(),
-        count.as_str().parse::<u32>(),
-    ) else {
-        return ExitCode::from(1);
-    };
-    let Some(sum) = calls::checksum(call.as_str(), size, count) else {
+    let Some(sum) = asked(words.next(), words.next(), words.next(), words.next()) else {
         return ExitCode::from(1);
     };
     match println!(rt; "{sum:032x}") {
