@@ -60,15 +60,5 @@ module _ (tells : Tells) (old : Streams) (script replies : SourceState) (command
       → HostEndsAt tells old after course result
   flushed_at WriteFault result at (is, same) =
       rw is (subst (λ (t : SinkState). HostEndsAt tells old (flows script replies commands t) course WriteFault) (sym same) (unflushed at))
-  flushed_at Finished result at (flushed, inl (is, handed)) = rw is (handed_at flushed Finished at handed)
-  flushed_at Finished result at (flushed, inr refused) = rw refused.0 (refused_at flushed Finished at)
-  flushed_at Differs result at (flushed, inl (is, handed)) = rw is (handed_at flushed Differs at handed)
-  flushed_at Differs result at (flushed, inr refused) = rw refused.0 (refused_at flushed Differs at)
-  flushed_at BadLine result at (flushed, inl (is, handed)) = rw is (handed_at flushed BadLine at handed)
-  flushed_at BadLine result at (flushed, inr refused) = rw refused.0 (refused_at flushed BadLine at)
-  flushed_at Failed result at (flushed, inl (is, handed)) = rw is (handed_at flushed Failed at handed)
-  flushed_at Failed result at (flushed, inr refused) = rw refused.0 (refused_at flushed Failed at)
-  flushed_at ReadFault result at (flushed, inl (is, handed)) = rw is (handed_at flushed ReadFault at handed)
-  flushed_at ReadFault result at (flushed, inr refused) = rw refused.0 (refused_at flushed ReadFault at)
-  flushed_at InputTooLong result at (flushed, inl (is, handed)) = rw is (handed_at flushed InputTooLong at handed)
-  flushed_at InputTooLong result at (flushed, inr refused) = rw refused.0 (refused_at flushed InputTooLong at)
+  flushed_at ending result at (flushed, inl (is, handed)) = rw is (handed_at flushed ending at handed)
+  flushed_at ending result at (flushed, inr refused) = rw refused.0 (refused_at flushed ending at)
