@@ -52,37 +52,20 @@ pub fn perform<F: Flash>(
     let (channel, domain) = (received.channel, received.selected);
     let at = usize::from(channel);
     match request {
-        Request::Select { prefix: aid } => {
-            select(records.tables(), channels, channel, aid, reply)
-        }
+        Request::Select { prefix: aid } => select(records.tables(), channels, channel, aid, reply),
         Request::MoreChannel => open_channel(&mut channels.live, reply),
         Request::LessChannel { number } => close_channel(channels, *number),
-        Request::Get { tag } => {
-            get_data(records.tables(), channels, channel, domain, *tag, reply)
-        }
+        Request::Get { tag } => get_data(records.tables(), channels, channel, domain, *tag, reply),
         Request::Initialize { version, challenge } => {
-            initialize_update(
-                records,
-                &mut channels.sessions[at],
-                domain,
-                *version,
-                challenge,
-                reply,
-            )
+            let session = &mut channels.sessions[at];
+            initialize_update(records, session, domain, *version, challenge, reply)
         }
         Request::Authenticate { level, proof } => {
             external_authenticate(&mut channels.sessions[at], *level, proof)
         }
         Request::List(list) => {
-            get_status(
-                records.tables(),
-                &mut channels.live,
-                place,
-                channel,
-                domain,
-                list,
-                reply,
-            )
+            let live = &mut channels.live;
+            get_status(records.tables(), live, place, channel, domain, list, reply)
         }
         Request::PutKey {
             replaced,
