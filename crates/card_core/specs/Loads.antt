@@ -19,9 +19,12 @@ use Rattle.policy_machine.specs.declared.rule.Rule.{Rule}
 use Rattle.content_rules.specs.LoadFound.{IsForLoad}
 use Rattle.content_rules.specs.LoadRequests.{IsLoadOf}
 use Rattle.content_rules.specs.declared.load.LoadRequest.{LoadRequest}
+use Rattle.policy_rules.specs.Requests.{IsRequestOf}
+use Rattle.policy_rules.specs.declared.request.Request.TheVariants.{Load}
 use Rattle.policy_slots.specs.StateShown.{ActsIn, RepresentsState}
 use Rattle.policy_slots.specs.declared.live.Live.{Live}
 use Rattle.policy_slots.specs.declared.live.LoadName.{LoadName}
+use Rattle.card_core.specs.Kept.{ForKept, Kept}
 use Rattle.card_core.specs.Loading.{RepresentsLoading}
 
 -- no rule refused the command, it did what it does, and what is kept shows the state that it leaves
@@ -39,6 +42,11 @@ pub record IsLoaded (admitted : Admitted) (page : ℕ → List ℕ) (tables : Ta
 abbrev pub LoadsAs : Admitted → (ℕ → List ℕ) → Tables → Live → Option LoadSession → List ℕ → Result Status Rule → Type 0
 LoadsAs admitted page tables live loading body (Ok status) = IsLoaded admitted page tables live loading body status
 LoadsAs admitted page tables live loading body (Err rule) = Judges admitted (Some rule) × (body ≡ [])
+
+-- `So` holds of each command on the channel that is the LOAD of this request, where the domain in the slot acts.
+abbrev pub ForLoad : Kept → ℕ → ℕ → LoadRequest → ((ℕ → List ℕ) → Admitted → Type 0) → Type 0
+ForLoad card channel domain request So = ForKept card (λ page admitted. ActsIn page card.tables domain admitted → channel ≡ admitted.channel
+    → IsRequestOf (Load request) admitted.command → So page admitted)
 
 -- the rule by which a block is refused that is not taken
 abbrev pub block_rule : BlockStop → RuleLO

@@ -19,7 +19,7 @@ pub use Rattle.card_core.specs.Lists.{IsSameButPlace, IsShown, Lists}
 pub use Rattle.card_core.specs.LoadRead.{IsLoadRead}
 pub use Rattle.card_core.specs.LoadedFile.{AddsLoaded}
 pub use Rattle.card_core.specs.Loading.{AreFree, RepresentsLoading, with_due}
-pub use Rattle.card_core.specs.Loads.{ForBlock, IsForBlock, IsLoaded, LoadsAs, block_in, block_rule}
+pub use Rattle.card_core.specs.Loads.{ForBlock, ForLoad, IsForBlock, IsLoaded, LoadsAs, block_in, block_rule}
 pub use Rattle.card_core.specs.Manages.{IsChanging, IsManaged, KeepsAid, KeepsAids, KeepsFree, KeepsSelected, Manages}
 pub use Rattle.card_core.specs.ObjectsPut.{IsSlotFor, PutsObject, object_with}
 pub use Rattle.card_core.specs.Offers.{AnswersAs, HoldsFor, IsMade, OffersAs, secure_channel_for}

@@ -2,7 +2,7 @@
 //! Specification 2.3.1, 9.3.5 and 11.6).
 
 ghost use Rattle.std.specs.Prelude.{◌≡◌, ◌≤◌, ℕ, List, [], IfOk, IfErr, IfSome, OnErr, OnOk, Some, None, length, true};
-ghost use Rattle.card_core.specs.Prelude.{ActsIn, Admitted, AreCards, AreFree, AreRoomy, FindsConfirmer, ForBlock, ForKept, Holds, IsBlockTaken, IsFirst, IsInOrder, IsRequestOf, IsWellFormed, LoadFails, LoadsAs, MayReceipt, RepresentsSome, block_in, block_rule, delegated_management, kept_of, load_rules, with_due};
+ghost use Rattle.card_core.specs.Prelude.{ActsIn, Admitted, AreCards, AreFree, AreRoomy, FindsConfirmer, ForBlock, ForLoad, Holds, IsBlockTaken, IsFirst, IsInOrder, IsWellFormed, LoadFails, LoadsAs, MayReceipt, RepresentsSome, block_in, block_rule, delegated_management, kept_of, load_rules, with_due};
 ghost use Rattle.policy_rules.specs.declared.request.Request.TheVariants.{Load};
 ghost use Rattle.scp03_card.specs.declared.close.TheConstants.{DATA_LIMIT};
 
@@ -85,9 +85,8 @@ pub fn load<F: Flash>(
     requires some { RepresentsSome (kept_of records.old.tables channels.old) }
     requires unwritten { channels.old.loading.writes.items ≡ [] }
     requires empty { reply.old.items ≡ [] }
-    ensures done { ForKept (kept_of records.old.tables channels.old) (λ page admitted. ActsIn page records.old.tables domain admitted → channel ≡ admitted.channel
-        → IsRequestOf (Load request.now) admitted.command
-        → LoadsAs admitted (with_due page channels.new.loading) records.new.tables channels.new.live channels.new.loading.session reply.new.items result) }
+    ensures done { ForLoad (kept_of records.old.tables channels.old) channel domain request.now (λ page admitted.
+        LoadsAs admitted (with_due page channels.new.loading) records.new.tables channels.new.live channels.new.loading.session reply.new.items result) }
     ensures writes { AreFree records.old.tables channels.new.loading.writes.items }
     ensures sessions { channels.new.sessions ≡ channels.old.sessions }
     ensures cards { AreCards records.new.tables }
