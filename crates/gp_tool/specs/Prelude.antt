@@ -1,10 +1,11 @@
 -- The names that the contracts here cite, passed on from one place. Declares nothing.
+pub use Rattle.apdu_core.specs.Reply.{status_bytes}
 pub use Rattle.arrayvec.specs.ArrayVec.{array_vec_len}
 pub use Rattle.cap_pack.specs.Held.{IsCap, pack_of}
 pub use Rattle.cap_pack.specs.Input.{joining, limited}
 pub use Rattle.cap_pack.specs.Said.{stop_text}
 pub use Rattle.card_check.specs.IsCard.{HasPages}
-pub use Rattle.card_core.specs.Card.{CardRepresents}
+pub use Rattle.card_core.specs.Card.{Answers, CardRepresents, LeavesEither}
 pub use Rattle.card_core.specs.Kept.{AreCards}
 pub use Rattle.card_types.proofs.KeyNames.{counter_order_total, key_order_total}
 pub use Rattle.card_types.proofs.ObjectNames.{object_order_total}
@@ -18,6 +19,7 @@ pub use Rattle.gp_tool.specs.Around.{Around, around}
 pub use Rattle.gp_tool.specs.Cap.{CapCourse, CapEnds, CapEndsAt, WritesJoined, pack_line}
 pub use Rattle.gp_tool.specs.CardEnd.{Comes}
 pub use Rattle.gp_tool.specs.Compare.{ComparesLine, KeepsLine, SkipsSpaces, keeping}
+pub use Rattle.gp_tool.specs.Counted.{counted}
 pub use Rattle.gp_tool.specs.Desk.{DeskEnds}
 pub use Rattle.gp_tool.specs.Device.{HoldsCard, refusal_status}
 pub use Rattle.gp_tool.specs.Effects.{Place}
@@ -50,6 +52,7 @@ pub use Rattle.line_runs.specs.Ends.{IsGoodInput}
 pub use Rattle.line_runs.specs.Outside.{IfFaultless, outside}
 pub use Rattle.page_journal.specs.Moments.{LeavesOnly}
 pub use Rattle.policy_machine.specs.State.{State, powered_on}
+pub use Rattle.policy_machine.specs.Step.{Outcome, Step}
 pub use Rattle.rec_store.specs.Reopens.{Reopens, load_page}
 pub use Rattle.receipt_desk.specs.Audit.{desk_taker, new_audit}
 pub use Rattle.script_tool.specs.Host.{Host, first_host}

@@ -2,6 +2,7 @@
 
 ghost use Rattle.gp_tool.specs.Prelude.{CardRepresents, Comes};
 
+use crate::command::give_command;
 use arrayvec::ArrayVec;
 use card_core::{Card, REPLY_LIMIT};
 use flash_core::{Flash, FlashFailed};
@@ -32,11 +33,8 @@ impl<F: Flash> CardLink for CardEnd<F> {
         command: &[u8],
         reply: &mut ArrayVec<u8, REPLY_LIMIT>,
     ) -> Result<(), LinkFailed> {
-        match self.card.process(command, reply) {
-            Ok(_) => {
-                self.done = self.done.saturating_add(1);
-                Ok(())
-            }
+        match give_command(&mut self.card, &mut self.done, command, reply) {
+            Ok(_) => Ok(()),
             Err(FlashFailed) => Err(LinkFailed),
         }
     }

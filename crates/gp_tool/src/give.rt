@@ -4,6 +4,7 @@ ghost use Rattle.std.specs.Prelude.{◌≡◌, ◌≢◌, ◌≤◌, true, lengt
 ghost use Rattle.gp_tool.specs.Prelude.{GivesLine, Rose};
 ghost use Rattle.gp_tool.specs.declared.give.Given.TheVariants.{FlashFault};
 
+use crate::command::give_command;
 use crate::form::{Form, read_form};
 use crate::workspace::Workspace;
 use card_core::Card;
@@ -49,11 +50,9 @@ pub fn give_line<F: Flash>(
             Given::Reset
         }
         Some(Form::Command(count)) => {
-            match card.process(&space.command[..count], &mut space.reply) {
-                Ok(rule) => {
-                    *done = done.saturating_add(1);
-                    Given::Answered(rule)
-                }
+            let command = &space.command[..count];
+            match give_command(card, done, command, &mut space.reply) {
+                Ok(rule) => Given::Answered(rule),
                 Err(FlashFailed) => Given::FlashFault,
             }
         }

@@ -26,6 +26,7 @@
 mod answer;
 mod cap_verb;
 mod card_end;
+mod command;
 mod desk_verb;
 mod difference;
 mod ended;

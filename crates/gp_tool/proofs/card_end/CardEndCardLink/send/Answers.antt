@@ -15,7 +15,7 @@ returns-in-Ok-clause-sent g c start first inputs came =
     let come = has_come F _ (record { card = c.args.self.now.card; done = c.args.self.now.done }) first inputs c.args.self.now.card.live c.requires.up came in
     let step = c.in-Ok.ensures.step come.last come.stands in
     let answers = step.3 in
-    come_answered F _ _ (record { card = c.process.new.self; done = _ }) first inputs come c.args.command.now step.0 step.1 step.2 answers.0 (few_more c.args.self.now.done _ c.saturating_add-self.ensures) c.in-Ok.ensures.ok
+    come_answered F _ _ (record { card = c.give_command.new.card; done = _ }) first inputs come c.args.command.now step.0 step.1 step.2 answers.0 (few_more c.args.self.now.done _ c.in-Ok.ensures.done) c.in-Ok.ensures.ok
 
 pub returns-in-Err-clause-sent : goal.returns-in-Err-clause-sent
 returns-in-Err-clause-sent g c start first inputs came =
@@ -23,4 +23,4 @@ returns-in-Err-clause-sent g c start first inputs came =
     let come = has_come F _ (record { card = c.args.self.now.card; done = c.args.self.now.done }) first inputs c.args.self.now.card.live c.requires.up came in
     let step = c.in-Err.ensures.step come.last come.stands in
     let failed = c.in-Err.ensures.failed in
-    come_stopped F _ _ (record { card = c.process.new.self; done = c.args.self.now.done }) first inputs come c.args.command.now step.0 step.1 step.2 g.met.F.Flash.counts_now refl failed.1
+    come_stopped F _ _ (record { card = c.give_command.new.card; done = _ }) first inputs come c.args.command.now step.0 step.1 step.2 g.met.F.Flash.counts_now c.in-Err.ensures.same failed.1
