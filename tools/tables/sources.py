@@ -80,7 +80,7 @@ def orders(titles):
     begun = re.search(r"^content_form .*\n((?:  .*\n)+)", specs, re.M).group(1)
     approvals = {"to_nobody": [], "to_holders": expand(lists["delegation_rules"])}
     for ins, said in re.findall(r"\(content_form (?:\{.*?\} )?0x(\w\w) .*?\) (\{.*(?:\n    .*|\n  [od].*)*)", specs):
-        group, own_rules = re.search(r"\bown = ruled (\w+) \((.*?)\)", said).groups()
+        group, own_rules = re.search(r"\bown = ordered_rules (\w+) \((.*?)\)", said).groups()
         early, delegation = [re.search(rf"\b{field} = (.*);", said + begun).group(1) for field in ("first_rules", "delegation")]
         approval = re.search(r"\brules = (.*?) \}", delegation)
         late = expand(approval.group(1)) if approval else approvals[delegation.split()[0]]

@@ -5,14 +5,14 @@ use Rattle.std.specs.Prelude.{IsSome, unwrap_or}
 use Rattle.std.specs.declared.cmp.Ordering.TheVariants.{Greater}
 use Rattle.card_types.specs.Aid.{aid_order}
 use Rattle.card_types.specs.Found.{aid_of}
-use Rattle.card_types.specs.Represents.{domain_aid, file_aid, held}
+use Rattle.card_types.specs.Represents.{domain_aid, file_aid, thing_in}
 use Rattle.card_types.specs.declared.found.Found.{Found}
 use Rattle.card_types.specs.declared.found.Found.TheVariants as found
 use Rattle.card_types.specs.declared.tables.Entry.{Entry}
 use Rattle.card_types.specs.declared.tables.LoadFile.{LoadFile}
 use Rattle.card_types.specs.declared.tables.Tables.{Tables}
 use Rattle.access_matrix.specs.Deeds.{found_aid}
-use Rattle.access_matrix.specs.Next.{HasDomain, HasEntry, HasFile, HasSpot, HasThing, IsNext, NoneNext, alone, place_order}
+use Rattle.access_matrix.specs.Next.{HasDomain, HasEntry, HasFile, HasSpot, HasThing, IsNextByKey, NoneNext, alone, place_order}
 use Rattle.access_matrix.specs.declared.act.Act.{Act}
 use Rattle.access_matrix.specs.declared.act.Act.TheVariants as slot
 use Rattle.access_matrix.proofs.Somes.{is_some, of_mapped}
@@ -53,7 +53,7 @@ module _ (tables : Tables) where
   -- where there is no next thing.
   module _ {T : Type 0} (Has : T → List ℕ → Type 0) (kind : ℕ) (act : T → Act) where
     abbrev pub FollowsThings : Type 0
-    FollowsThings = ((last : Option (List ℕ)) (thing : T) → IsNext Has aid_order last thing → IsNext (HasSpot tables kind) place_order (option_map alone last) (act thing))
+    FollowsThings = ((last : Option (List ℕ)) (thing : T) → IsNextByKey Has aid_order last thing → IsNextByKey (HasSpot tables kind) place_order (option_map alone last) (act thing))
         × ((last : Option (List ℕ)) → NoneNext Has aid_order last → NoneNext (HasSpot tables kind) place_order (option_map alone last))
 
     follows : ((thing : T) (aid : List ℕ) → Has thing aid → HasSpot tables kind (act thing) (alone aid))
@@ -79,7 +79,7 @@ module _ (tables : Tables) where
   of_related : (act : Act) (spot : List (List ℕ)) → HasSpot tables 1 act spot → (file : ℕ) × (aid : List ℕ) × HasFile tables file aid × (spot ≡ alone aid)
   of_related (slot.Delete thing) spot has = absurd (omega (arith, same_kind _ _ _ _ has.1))
   of_related (slot.Related file) spot has =
-      (file, file_aid tables.files.items file, of_name (λ (f : LoadFile). f.aid) (held tables.files.items file) has.0, sym (same_spot _ _ _ _ has.1))
+      (file, file_aid tables.files.items file, of_name (λ (f : LoadFile). f.aid) (thing_in tables.files.items file) has.0, sym (same_spot _ _ _ _ has.1))
   of_related (slot.Lock entry) spot has = absurd (omega (arith, same_kind _ _ _ _ has.1))
   of_related _ spot has = absurd (omega (arith, same_kind _ _ _ _ has.1))
 
@@ -95,7 +95,7 @@ module _ (tables : Tables) where
   of_lock (slot.Delete thing) spot has = absurd (omega (arith, same_kind _ _ _ _ has.1))
   of_lock (slot.Related file) spot has = absurd (omega (arith, same_kind _ _ _ _ has.1))
   of_lock (slot.Lock entry) spot has =
-      (entry, domain_aid tables.entries.items entry, of_name (λ (e : Entry). e.aid) (held tables.entries.items entry) has.0, sym (same_spot _ _ _ _ has.1))
+      (entry, domain_aid tables.entries.items entry, of_name (λ (e : Entry). e.aid) (thing_in tables.entries.items entry) has.0, sym (same_spot _ _ _ _ has.1))
   of_lock (slot.Move thing domain) spot has = absurd (omega (arith, same_kind _ _ _ _ has.1))
   of_lock _ spot has = absurd (omega (arith, same_kind _ _ _ _ has.1))
 
@@ -113,7 +113,7 @@ module _ (tables : Tables) where
   of_install (slot.Lock entry) spot has = absurd (omega (arith, same_kind _ _ _ _ has.1))
   of_install (slot.Move thing domain) spot has = absurd (omega (arith, same_kind _ _ _ _ has.1))
   of_install (slot.Install file) spot has =
-      (file, file_aid tables.files.items file, of_name (λ (f : LoadFile). f.aid) (held tables.files.items file) has.0, sym (same_spot _ _ _ _ has.1))
+      (file, file_aid tables.files.items file, of_name (λ (f : LoadFile). f.aid) (thing_in tables.files.items file) has.0, sym (same_spot _ _ _ _ has.1))
   of_install slot.Load spot has = absurd (omega (arith, same_kind _ _ _ _ has.1))
 
   pub install_follows : FollowsThings (HasFile tables) 4 slot.Install
@@ -124,7 +124,7 @@ module _ (tables : Tables) where
   of_load slot.Load spot has = sym (same_spot _ _ _ _ has.1)
   of_load _ spot has = absurd (omega (arith, same_kind _ _ _ _ has.1))
 
-  pub load_is_next : IsNext (HasSpot tables 5) place_order None slot.Load
+  pub load_is_next : IsNextByKey (HasSpot tables 5) place_order None slot.Load
   load_is_next = record {
     key = [] ∷ [] ∷ [];
     has = (tt, refl);
@@ -160,8 +160,8 @@ module _ (tables : Tables) where
   of_move (slot.Install file) spot has = absurd (omega (arith, same_kind _ _ _ _ has.1))
   of_move slot.Load spot has = absurd (omega (arith, same_kind _ _ _ _ has.1))
 
-  goal_next : (last : Option (List ℕ)) (domain : ℕ) → IsNext (HasDomain tables) aid_order last domain
-      → IsNext HasGoal place_order (option_map (λ aid. aid ∷ []) last) domain
+  goal_next : (last : Option (List ℕ)) (domain : ℕ) → IsNextByKey (HasDomain tables) aid_order last domain
+      → IsNextByKey HasGoal place_order (option_map (λ aid. aid ∷ []) last) domain
   goal_next last domain next =
       wrapped_next (HasDomain tables) HasGoal (λ aid. aid ∷ []) (λ d. d) order_of_one (λ d a has. (a, has, refl)) (λ d p has. (d, has.0, has.1, has.2)) last domain next
 
@@ -170,12 +170,12 @@ module _ (tables : Tables) where
       none_wrapped (HasDomain tables) HasGoal (λ aid. aid ∷ []) (λ d. d) order_of_one (λ d a has. (a, has, refl)) (λ d p has. (d, has.0, has.1, has.2)) last none
 
   module _ (thing : Found) (domain : ℕ) where
-    pub first_move_is : IsNext (HasThing tables) aid_order None thing → IsNext (HasDomain tables) aid_order None domain
-        → IsNext (HasSpot tables 3) place_order None (slot.Move thing domain)
+    pub first_move_is : IsNextByKey (HasThing tables) aid_order None thing → IsNextByKey (HasDomain tables) aid_order None domain
+        → IsNextByKey (HasSpot tables 3) place_order None (slot.Move thing domain)
     first_move_is first second = first_pair (HasThing tables) HasGoal (HasSpot tables 3) slot.Move to_move of_move thing first domain (goal_next None domain second)
 
-    pub move_further : (aid goal : List ℕ) → HasThing tables thing aid → IsNext (HasDomain tables) aid_order (Some goal) domain
-        → IsNext (HasSpot tables 3) place_order (Some (aid ∷ goal ∷ [])) (slot.Move thing domain)
+    pub move_further : (aid goal : List ℕ) → HasThing tables thing aid → IsNextByKey (HasDomain tables) aid_order (Some goal) domain
+        → IsNextByKey (HasSpot tables 3) place_order (Some (aid ∷ goal ∷ [])) (slot.Move thing domain)
     move_further aid goal has next =
         next_second (HasThing tables) HasGoal (HasSpot tables 3) slot.Move to_move of_move thing aid has (goal ∷ []) domain (goal_next (Some goal) domain next)
 
@@ -188,8 +188,8 @@ module _ (tables : Tables) where
   no_further aid goal (inr none) thing has = no_goal (Some goal) none
 
   module _ (aid goal : List ℕ) (moved : IsMoved aid goal) where
-    pub next_moved : (thing : Found) (domain : ℕ) → IsNext (HasThing tables) aid_order (Some aid) thing → IsNext (HasDomain tables) aid_order None domain
-        → IsNext (HasSpot tables 3) place_order (Some (aid ∷ goal ∷ [])) (slot.Move thing domain)
+    pub next_moved : (thing : Found) (domain : ℕ) → IsNextByKey (HasThing tables) aid_order (Some aid) thing → IsNextByKey (HasDomain tables) aid_order None domain
+        → IsNextByKey (HasSpot tables 3) place_order (Some (aid ∷ goal ∷ [])) (slot.Move thing domain)
     next_moved thing domain first second =
         next_first (HasThing tables) HasGoal (HasSpot tables 3) slot.Move to_move of_move aid (goal ∷ []) (no_further aid goal moved) thing first domain (goal_next None domain second)
 

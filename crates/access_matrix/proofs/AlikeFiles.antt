@@ -34,7 +34,7 @@ use Rattle.policy_machine.specs.declared.delegation.RuleRC.TheVariants.{RC1}
 use Rattle.policy_machine.specs.declared.delegation.RuleTK.TheVariants.{TK3}
 use Rattle.policy_machine.specs.declared.rule.Rule.{Rule}
 use Rattle.policy_machine.specs.declared.rule.Rule.TheVariants.{RC, TK}
-use Rattle.access_matrix.specs.Commands.{HasFront, HasP2, IsCommandOf, IsFreeAid, IsTokenFor, form_of, judged_as, numbered_aid, p1_of}
+use Rattle.access_matrix.specs.Commands.{HasFront, HasP2, IsCommandOf, IsFirstFreeAid, IsTokenFor, form_of, judged_as, numbered_aid, p1_of}
 use Rattle.access_matrix.specs.Deeds.{IsThing}
 use Rattle.access_matrix.specs.May.{May, initialize}
 use Rattle.access_matrix.specs.There.{judged_there}
@@ -317,7 +317,7 @@ module _ (life : CardLife) (entries : List Entry) (keys : List Key) (counters : 
     thing_back aid (inl entry) = inl entry
     thing_back aid (inr file) = inr (some_back (file_named (with_files fs) aid) (file_named (with_files gs) aid) (alike.named aid) file)
 
-    free_forth : (new : List ℕ) → IsFreeAid (with_files fs) new → IsFreeAid (with_files gs) new
+    free_forth : (new : List ℕ) → IsFirstFreeAid (with_files fs) new → IsFirstFreeAid (with_files gs) new
     free_forth new free = record {
       number = free.number;
       is = free.is;

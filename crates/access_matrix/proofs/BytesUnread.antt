@@ -9,7 +9,7 @@ use Rattle.std.proofs.Math.Seq.{take-nil}
 use Rattle.std.specs.List.Sorted.{IsPermutation, IsStrictlySortedBy}
 use Rattle.std.proofs.lemmas.List.Sorted.{IsPermutation-map}
 use Rattle.card_types.specs.Aid.{aid_order, same_aid}
-use Rattle.card_types.specs.Represents.{Represents, domain_aid, file_of, used}
+use Rattle.card_types.specs.Represents.{Represents, domain_aid, file_of, things_in}
 use Rattle.card_types.specs.declared.tables.Entry.{Entry as Slot}
 use Rattle.card_types.specs.declared.tables.LoadFile.{LoadFile as File}
 use Rattle.card_types.specs.declared.tables.Tables.{Tables}
@@ -80,8 +80,8 @@ bare_says : (page : ℕ → List ℕ) (tables : Tables) (said : Registry) → Re
 bare_says page tables said says = record {
   life = says.life;
   entries = says.entries;
-  files = subst (λ (files : List LoadFile). IsPermutation files (map bare said.files)) (bare_files page tables.entries.items (used tables.files.items))
-      (IsPermutation-map bare (map (file_of page tables.entries.items) (used tables.files.items)) said.files says.files);
+  files = subst (λ (files : List LoadFile). IsPermutation files (map bare said.files)) (bare_files page tables.entries.items (things_in tables.files.items))
+      (IsPermutation-map bare (map (file_of page tables.entries.items) (things_in tables.files.items)) said.files says.files);
   keys = says.keys;
   counters = says.counters;
   objects = says.objects;

@@ -4,7 +4,7 @@ use Rattle.card_types.specs.Aid.{aid_order}
 use Rattle.card_types.specs.Represents.{domain_aid}
 use Rattle.card_types.specs.declared.tables.Tables.{Tables}
 use Rattle.access_matrix.specs.Deeds.{deed_of}
-use Rattle.access_matrix.specs.Next.{HasDomain, HasPlace, HasCandidate, IsNext, NoneNext, deed_place, place_order}
+use Rattle.access_matrix.specs.Next.{HasDomain, HasPlace, HasCandidate, IsNextByKey, NoneNext, deed_place, place_order}
 use Rattle.access_matrix.specs.declared.act.Act.{Act}
 use Rattle.access_matrix.specs.declared.candidate.Candidate.{Candidate}
 use Rattle.access_matrix.proofs.Places.{Paired, first_pair, next_first, next_second, none_first}
@@ -29,12 +29,12 @@ module _ (tables : Tables) where
   }
 
   module _ (domain : ℕ) (act : Act) where
-    pub first_candidate_is : IsNext (HasDomain tables) aid_order None domain → IsNext (HasPlace tables) place_order None act
-        → IsNext (HasCandidate tables) place_order None (candidate domain act)
+    pub first_candidate_is : IsNextByKey (HasDomain tables) aid_order None domain → IsNextByKey (HasPlace tables) place_order None act
+        → IsNextByKey (HasCandidate tables) place_order None (candidate domain act)
     first_candidate_is first second = first_pair (HasDomain tables) (HasPlace tables) (HasCandidate tables) candidate to_right of_right domain first act second
 
-    pub candidate_further : (aid : List ℕ) (place : List (List ℕ)) → HasDomain tables domain aid → IsNext (HasPlace tables) place_order (Some place) act
-        → IsNext (HasCandidate tables) place_order (Some (aid ∷ place)) (candidate domain act)
+    pub candidate_further : (aid : List ℕ) (place : List (List ℕ)) → HasDomain tables domain aid → IsNextByKey (HasPlace tables) place_order (Some place) act
+        → IsNextByKey (HasCandidate tables) place_order (Some (aid ∷ place)) (candidate domain act)
     candidate_further aid place has next =
         next_second (HasDomain tables) (HasPlace tables) (HasCandidate tables) candidate to_right of_right domain aid has place act next
 
@@ -50,8 +50,8 @@ module _ (tables : Tables) where
         by (inl none) = absurd (none domain has)
         by (inr none) = none
 
-    pub candidate_of_next : (domain : ℕ) (act : Act) → IsNext (HasDomain tables) aid_order (Some aid) domain → IsNext (HasPlace tables) place_order None act
-        → IsNext (HasCandidate tables) place_order (Some (aid ∷ place)) (candidate domain act)
+    pub candidate_of_next : (domain : ℕ) (act : Act) → IsNextByKey (HasDomain tables) aid_order (Some aid) domain → IsNextByKey (HasPlace tables) place_order None act
+        → IsNextByKey (HasCandidate tables) place_order (Some (aid ∷ place)) (candidate domain act)
     candidate_of_next domain act first second =
         next_first (HasDomain tables) (HasPlace tables) (HasCandidate tables) candidate to_right of_right aid place none_left domain first act second
 

@@ -17,7 +17,7 @@ use Rattle.policy_machine.proofs.Judging.{IsListed}
 use Rattle.policy_machine.specs.Commands.{TakesCommand}
 use Rattle.policy_machine.specs.ExternalAuthenticate.{rules_before_form}
 use Rattle.tokens_receipts.specs.Token.{signed_by_token}
-use Rattle.access_matrix.specs.Commands.{IsCommandOf, IsFreeAid, IsTokenFor, end_of, form_of, judged_as, module_for, p1_of, privileges_for}
+use Rattle.access_matrix.specs.Commands.{IsCommandOf, IsFirstFreeAid, IsTokenFor, end_of, form_of, judged_as, module_for, p1_of, privileges_for}
 use Rattle.access_matrix.specs.Deeds.{IsThere, IsThing}
 use Rattle.access_matrix.specs.There.{plain}
 use Rattle.access_matrix.specs.declared.deed.Deed.{Deed}
@@ -53,7 +53,7 @@ module _ (registry : Registry) (well : Well registry) where
       by None domain = absurd domain
       by (Some entry) domain = refl
 
-free_is_aid : (registry : Registry) (aid : List ℕ) → IsFreeAid registry aid → IsAid aid
+free_is_aid : (registry : Registry) (aid : List ℕ) → IsFirstFreeAid registry aid → IsAid aid
 free_is_aid registry aid free = subst IsAid (sym free.is) (omega arith, omega arith)
 
 module_is_aid : (file aid : List ℕ) → IsAid aid → IsAid (module_for file aid)

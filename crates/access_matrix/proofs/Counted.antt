@@ -12,7 +12,7 @@ use Rattle.std.proofs.lemmas.Cmp.{lists_total, nat_list_cmp_total, tied_itself}
 use Rattle.std.proofs.lemmas.List.Elements.{Contains-append_left, Contains-append_right}
 use Rattle.std.proofs.lemmas.List.Sums.{count_by-le-length, length-filter}
 use Rattle.card_types.specs.Found.{aid_of}
-use Rattle.card_types.specs.Represents.{domain_aid, file_aid, used, held}
+use Rattle.card_types.specs.Represents.{domain_aid, file_aid, things_in, thing_in}
 use Rattle.card_types.specs.declared.found.Found.{Found}
 use Rattle.card_types.specs.declared.found.Found.TheVariants as found
 use Rattle.card_types.specs.declared.tables.Entry.{Entry}
@@ -22,7 +22,7 @@ use Rattle.card_types.proofs.Members.{contains_cases, contains_first, contains_l
 use Rattle.card_types.proofs.Shows.{used_from_held}
 use Rattle.access_matrix.specs.Deeds.{AreUsed, HoldsDomain, deed_of, found_aid}
 use Rattle.access_matrix.specs.Next.{IsCandidate, IsPast, place_order, right_of}
-use Rattle.access_matrix.specs.Rights.{goal_of, kind_of, place_of, thing_of}
+use Rattle.access_matrix.specs.Rights.{deed_kind, goal_of, right_key, thing_of}
 use Rattle.access_matrix.specs.Walks.{aids_of, kinds, places_from, rights_left}
 use Rattle.access_matrix.specs.declared.act.Act.{Act}
 use Rattle.access_matrix.specs.declared.act.Act.TheVariants as slot
@@ -86,31 +86,31 @@ module _ (tables : Tables) where
   unfolding aids_of
   has_none = contains_first _ _
 
-  has_entry : (slot : ℕ) → IsSome (held tables.entries.items slot) → Contains (aids_of tables) (domain_aid tables.entries.items slot)
+  has_entry : (slot : ℕ) → IsSome (thing_in tables.entries.items slot) → Contains (aids_of tables) (domain_aid tables.entries.items slot)
   unfolding aids_of
-  has_entry slot some = by (held tables.entries.items slot) refl some
+  has_entry slot some = by (thing_in tables.entries.items slot) refl some
     where
-      by : (o : Option Entry) → held tables.entries.items slot ≡ o → IsSome o
-          → Contains (aids_of tables) (unwrap_or (option_map (λ e. e.aid) (held tables.entries.items slot)) [])
+      by : (o : Option Entry) → thing_in tables.entries.items slot ≡ o → IsSome o
+          → Contains (aids_of tables) (unwrap_or (option_map (λ e. e.aid) (thing_in tables.entries.items slot)) [])
       by None at is = absurd cc
       by (Some entry) at is =
           rw at (contains_later _ _ _ (Contains-append_left _ _ entry.aid
-          (contains_map (λ (e : Entry). e.aid) (used tables.entries.items) entry (used_from_held tables.entries.items slot entry at))))
+          (contains_map (λ (e : Entry). e.aid) (things_in tables.entries.items) entry (used_from_held tables.entries.items slot entry at))))
 
-  has_file : (slot : ℕ) → IsSome (held tables.files.items slot) → Contains (aids_of tables) (file_aid tables.files.items slot)
+  has_file : (slot : ℕ) → IsSome (thing_in tables.files.items slot) → Contains (aids_of tables) (file_aid tables.files.items slot)
   unfolding aids_of
-  has_file slot some = by (held tables.files.items slot) refl some
+  has_file slot some = by (thing_in tables.files.items slot) refl some
     where
-      by : (o : Option LoadFile) → held tables.files.items slot ≡ o → IsSome o
-          → Contains (aids_of tables) (unwrap_or (option_map (λ f. f.aid) (held tables.files.items slot)) [])
+      by : (o : Option LoadFile) → thing_in tables.files.items slot ≡ o → IsSome o
+          → Contains (aids_of tables) (unwrap_or (option_map (λ f. f.aid) (thing_in tables.files.items slot)) [])
       by None at is = absurd cc
       by (Some file) at is =
           rw at (contains_later _ _ _ (Contains-append_right _ _ file.aid
-          (contains_map (λ (f : LoadFile). f.aid) (used tables.files.items) file (used_from_held tables.files.items slot file at))))
+          (contains_map (λ (f : LoadFile). f.aid) (things_in tables.files.items) file (used_from_held tables.files.items slot file at))))
 
   has_thing : (thing : Found) → IsSome (aid_of tables thing) → Contains (aids_of tables) (found_aid tables thing)
-  has_thing (found.Entry slot) some = has_entry slot (of_mapped (λ (e : Entry). e.aid) (held tables.entries.items slot) some)
-  has_thing (found.File slot) some = has_file slot (of_mapped (λ (f : LoadFile). f.aid) (held tables.files.items slot) some)
+  has_thing (found.Entry slot) some = has_entry slot (of_mapped (λ (e : Entry). e.aid) (thing_in tables.entries.items slot) some)
+  has_thing (found.File slot) some = has_file slot (of_mapped (λ (f : LoadFile). f.aid) (thing_in tables.files.items slot) some)
 
   has_domain : (slot : ℕ) → HoldsDomain tables slot → Contains (aids_of tables) (domain_aid tables.entries.items slot)
   has_domain slot holds = (let entry = held_domain tables slot holds in has_entry slot (rw entry.1 refl))
@@ -127,7 +127,7 @@ module _ (tables : Tables) where
   act_goal (slot.Move thing domain) is = has_domain domain is.1
   act_goal _ is = has_none
 
-  act_kind : (act : Act) → Contains kinds (kind_of (deed_of tables act))
+  act_kind : (act : Act) → Contains kinds (deed_kind (deed_of tables act))
   unfolding kinds
   act_kind (slot.Delete thing) = (0, omega arith, refl)
   act_kind (slot.Related file) = (1, omega arith, refl)
@@ -136,7 +136,7 @@ module _ (tables : Tables) where
   act_kind (slot.Install file) = (4, omega arith, refl)
   act_kind slot.Load = (5, omega arith, refl)
 
-  has_place : (c : Candidate) → IsCandidate tables c → Contains (places_from (aids_of tables)) (place_of (right_of tables c))
+  has_place : (c : Candidate) → IsCandidate tables c → Contains (places_from (aids_of tables)) (right_key (right_of tables c))
   has_place c is =
       contains_placed (aids_of tables) _ _ _ _ (has_domain c.domain is.0) (act_kind c.act) (act_thing c.act is.1) (act_goal c.act is.1)
 
@@ -146,18 +146,18 @@ module _ (tables : Tables) where
   less_from Greater is = absurd cc
 
   -- fewer are left after a candidate that comes after the last right
-  pub fewer_left : (last : Option Right) (c : Candidate) → IsCandidate tables c → IsPast place_order (option_map place_of last) (place_of (right_of tables c))
+  pub fewer_left : (last : Option Right) (c : Candidate) → IsCandidate tables c → IsPast place_order (option_map right_key last) (right_key (right_of tables c))
       → rights_left tables (Some (right_of tables c)) < rights_left tables last
   unfolding rights_left
   fewer_left None c is past =
-      let next = place_of (right_of tables c) in
+      let next = right_key (right_of tables c) in
       let all = places_from (aids_of tables) in
       let counted = length-filter (λ other. is_lt (place_order next other)) all in
       let most = count_by-le-length (λ other. is_lt (place_order next other)) all in
       omega arith
   fewer_left (Some last) c is past =
-      let place = place_of last in
-      let next = place_of (right_of tables c) in
+      let place = right_key last in
+      let next = right_key (right_of tables c) in
       fewer (λ other. is_lt (place_order next other)) (λ other. is_lt (place_order place other))
       (λ other after. ap is_lt (place_total.trans place next other past (less_from (place_order next other) after)))
       (places_from (aids_of tables)) next (has_place c is) (ap is_lt (tied_itself place_total next)) (ap is_lt past)

@@ -32,8 +32,8 @@ use Rattle.policy_slots.specs.HoldersFound.{approval_of}
 use Rattle.policy_slots.specs.declared.delegation.Signed.{Signed}
 use Rattle.tokens_receipts.specs.Receipt.{with_length}
 use Rattle.tokens_receipts.specs.Token.{object_named_by, token_element, token_field}
-use Rattle.access_matrix.specs.Commands.{IsCommandOf, IsFreeAid, IsTokenFor, module_for, privileges_for, turned}
-use Rattle.access_matrix.specs.Passing.{IsAccepted, deletion_of}
+use Rattle.access_matrix.specs.Commands.{IsCommandOf, IsFirstFreeAid, IsTokenFor, module_for, privileges_for, with_other_lock}
+use Rattle.access_matrix.specs.Passing.{IsDeedAccepted, deletion_of}
 use Rattle.access_matrix.specs.There.{judged_there, plain}
 use Rattle.access_matrix.specs.declared.deed.Deed.TheVariants.{Delete, Related, Lock, Move, Install, Load}
 use Rattle.access_matrix.proofs.OneCommand.{accepted_by}
@@ -97,13 +97,13 @@ module _ (aid : List ℕ) (given : Option (List ℕ)) (related : Bool) (p2 : ℕ
   deletion_is registry domain approved false (inr is) = record { p2 = p2; front = object_named_by aid; given = given; has_p2 = is.1; has_front = refl; approved = approved; is = refl }
 
   deletion_told : (registry : Registry) (domain : List ℕ) (b : Bool) → IsCommandOf registry domain (deletion_of b aid) deletion_command → {passes : Type 0}
-      → passes ↔ FailsFirst (command_form managed_delete_object) (judged_there registry domain deletion_command) None → passes ↔ IsAccepted registry domain (deletion_of b aid)
+      → passes ↔ FailsFirst (command_form managed_delete_object) (judged_there registry domain deletion_command) None → passes ↔ IsDeedAccepted registry domain (deletion_of b aid)
   deletion_told registry domain true is tells = accepted_by registry domain (Related aid) deletion_command is tells
   deletion_told registry domain false is tells = accepted_by registry domain (Delete aid) deletion_command is tells
 
   pub deletion_accepted : (registry : Registry) (domain : List ℕ)
       → IsTokenFor registry domain (IsDelegated (judged_there registry domain deletion_command)) 0x00 p2 (object_named_by aid) given → {passes : Type 0}
-      → passes ↔ FailsFirst (command_form managed_delete_object) (judged_there registry domain deletion_command) None → passes ↔ IsAccepted registry domain (deletion_of related aid)
+      → passes ↔ FailsFirst (command_form managed_delete_object) (judged_there registry domain deletion_command) None → passes ↔ IsDeedAccepted registry domain (deletion_of related aid)
   deletion_accepted registry domain approved tells = deletion_told registry domain related (deletion_is registry domain approved related told) tells
 
 -- INSTALL [for extradition]
@@ -129,7 +129,7 @@ module _ (to aid : List ℕ) (given : Option (List ℕ)) where
 
   pub move_accepted : (registry : Registry) (domain : List ℕ)
       → IsTokenFor registry domain (Holds (judged_there registry domain move_command) delegated_management) 0x10 0x00 move_front given → {passes : Type 0}
-      → passes ↔ FailsFirst (command_form managed_extradition) (judged_there registry domain move_command) None → passes ↔ IsAccepted registry domain (Move aid to)
+      → passes ↔ FailsFirst (command_form managed_extradition) (judged_there registry domain move_command) None → passes ↔ IsDeedAccepted registry domain (Move aid to)
   move_accepted registry domain approved tells =
       accepted_by registry domain (Move aid to) move_command
       (record { p2 = 0x00; front = move_front; given = given; has_p2 = refl; has_front = refl; approved = approved; is = refl }) tells
@@ -160,9 +160,9 @@ module _ (file aid : List ℕ) (given : Option (List ℕ)) where
     short = within_body request.signed.before.now install_front (with_length (token_field given)) before;
   }
 
-  pub install_accepted : (registry : Registry) (domain : List ℕ) → IsFreeAid registry aid
+  pub install_accepted : (registry : Registry) (domain : List ℕ) → IsFirstFreeAid registry aid
       → IsTokenFor registry domain (Holds (judged_there registry domain install_command) delegated_management) 0x0C 0x00 install_front given → {passes : Type 0}
-      → passes ↔ FailsFirst (command_form managed_install) (judged_there registry domain install_command) None → passes ↔ IsAccepted registry domain (Install file)
+      → passes ↔ FailsFirst (command_form managed_install) (judged_there registry domain install_command) None → passes ↔ IsDeedAccepted registry domain (Install file)
   install_accepted registry domain free approved tells =
       accepted_by registry domain (Install file) install_command
       (record { p2 = 0x00; front = install_front; given = given; has_p2 = refl; has_front = (aid, free, refl); approved = approved; is = refl }) tells
@@ -189,9 +189,9 @@ module _ (file : List ℕ) (given : Option (List ℕ)) where
     short = within_body request.signed.before.now load_front (with_length (token_field given)) before;
   }
 
-  pub load_accepted : (registry : Registry) (domain : List ℕ) → IsFreeAid registry file
+  pub load_accepted : (registry : Registry) (domain : List ℕ) → IsFirstFreeAid registry file
       → IsTokenFor registry domain (Holds (judged_there registry domain load_command) delegated_management) 0x02 0x00 load_front given → {passes : Type 0}
-      → passes ↔ FailsFirst install_load (judged_there registry domain load_command) None → passes ↔ IsAccepted registry domain Load
+      → passes ↔ FailsFirst install_load (judged_there registry domain load_command) None → passes ↔ IsDeedAccepted registry domain Load
   load_accepted registry domain free approved tells =
       accepted_by registry domain Load load_command
       (record { p2 = 0x00; front = load_front; given = given; has_p2 = refl; has_front = (file, free, refl); approved = approved; is = refl }) tells
@@ -204,8 +204,8 @@ module _ (aid : List ℕ) (p2 : ℕ) where
   pub lock_request : (request : EntryStatusRequest) → IsAid aid → request.tree ≡ false → request.life ≡ p2 → request.aid ≡ aid → IsEntryStatusRequest request 0x40 p2 aid
   lock_request request is one life named = record { parameters = inl refl; field = is; tree = one; life = life; aid = named }
 
-  pub lock_accepted : (registry : Registry) (domain : List ℕ) (entry : Entry) → entry_named registry aid ≡ Some entry → p2 ≡ life_mark_code (turned entry.life) → {passes : Type 0}
-      → passes ↔ FailsFirst (command_form managed_entry_status) (judged_there registry domain lock_command) None → passes ↔ IsAccepted registry domain (Lock aid)
+  pub lock_accepted : (registry : Registry) (domain : List ℕ) (entry : Entry) → entry_named registry aid ≡ Some entry → p2 ≡ life_mark_code (with_other_lock entry.life) → {passes : Type 0}
+      → passes ↔ FailsFirst (command_form managed_entry_status) (judged_there registry domain lock_command) None → passes ↔ IsDeedAccepted registry domain (Lock aid)
   lock_accepted registry domain entry named life tells =
       accepted_by registry domain (Lock aid) lock_command (record {
         p2 = p2;

@@ -5,7 +5,7 @@ use Rattle.std.specs.Option.{option_map}
 use Rattle.apdu_core.specs.Apdu.{Apdu}
 use Rattle.card_types.proofs.Domains.{domain_aid_is}
 use Rattle.card_types.specs.Registry.{Registry, entry_named}
-use Rattle.card_types.specs.Represents.{Represents, domain_aid, held}
+use Rattle.card_types.specs.Represents.{Represents, domain_aid, thing_in}
 use Rattle.card_types.specs.Well.{Well}
 use Rattle.card_types.specs.declared.tables.Entry.{Entry}
 use Rattle.card_types.specs.declared.tables.Tables.{Tables}
@@ -22,7 +22,7 @@ abbrev pub live_there : ℕ → Live
 live_there domain = live_with_channel first_live 0 (Some domain)
 
 module _ (page : ℕ → List ℕ) (tables : Tables) (said : Registry) (says : Represents page tables said) (domain : ℕ) (entry : Entry)
-    (at : held tables.entries.items domain ≡ Some entry) where
+    (at : thing_in tables.entries.items domain ≡ Some entry) where
   abbrev aid : List ℕ
   aid = domain_aid tables.entries.items domain
 
@@ -66,9 +66,9 @@ module _ (page : ℕ → List ℕ) (tables : Tables) (said : Registry) (says : R
   acts_there well command = record { says = says; well = well; entry = entry; at = at; on = refl }
 
 -- a slot that is used holds an entry
-pub used_entry : (tables : Tables) (slot : ℕ) → IsSome (held tables.entries.items slot) → (entry : Entry) × (held tables.entries.items slot ≡ Some entry)
-used_entry tables slot used = by (held tables.entries.items slot) refl used
+pub used_entry : (tables : Tables) (slot : ℕ) → IsSome (thing_in tables.entries.items slot) → (entry : Entry) × (thing_in tables.entries.items slot ≡ Some entry)
+used_entry tables slot used = by (thing_in tables.entries.items slot) refl used
   where
-    by : (o : Option Entry) → held tables.entries.items slot ≡ o → IsSome o → (entry : Entry) × (held tables.entries.items slot ≡ Some entry)
+    by : (o : Option Entry) → thing_in tables.entries.items slot ≡ o → IsSome o → (entry : Entry) × (thing_in tables.entries.items slot ≡ Some entry)
     by None is some = cc
     by (Some entry) is some = (entry, is)

@@ -23,7 +23,7 @@ use Rattle.card_types.specs.declared.found.Found.{Found}
 use Rattle.card_types.specs.declared.found.Found.TheVariants as found
 use Rattle.card_types.specs.declared.tables.Tables.{Tables}
 use Rattle.std.specs.Option.{option_map}
-use Rattle.access_matrix.specs.Commands.{IsFreeAid, numbered_aid}
+use Rattle.access_matrix.specs.Commands.{IsFirstFreeAid, numbered_aid}
 use Rattle.access_matrix.specs.Deeds.{IsThing}
 use Rattle.access_matrix.proofs.Pigeonhole.{no_more_names}
 
@@ -59,7 +59,7 @@ module _ (page : ℕ → List ℕ) (tables : Tables) (said : Registry) (says : R
   thing_in_slot aid (found.Entry slot, named) = inl (rw (found_entry_named page tables said says slot aid named).2 refl)
   thing_in_slot aid (found.File slot, named) = inr (rw (found_file_named page tables said says slot aid named).2 refl)
 
-  pub first_free : (number : ℕ) → AreInSlots tables number → (IsInSlot tables (numbered_aid number) → ⊥) → IsFreeAid said (numbered_aid number)
+  pub first_free : (number : ℕ) → AreInSlots tables number → (IsInSlot tables (numbered_aid number) → ⊥) → IsFirstFreeAid said (numbered_aid number)
   first_free number below none = record {
     number = number;
     is = refl;

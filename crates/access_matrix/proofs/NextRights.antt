@@ -7,7 +7,7 @@ use Rattle.std.specs.declared.cmp.Ordering.{Ordering}
 use Rattle.std.specs.declared.cmp.Ordering.TheVariants.{Less, Equal, Greater}
 use Rattle.card_types.specs.Registry.{Registry}
 use Rattle.card_types.proofs.Members.{contains_cases, contains_first, contains_later}
-use Rattle.access_matrix.specs.Rights.{AreNextRights, ComesAfter, IsNextRight, IsRight, NextRightsAreAll, NoRightAfter, place_of, right_order}
+use Rattle.access_matrix.specs.Rights.{AreNextRights, ComesAfter, IsNextRight, IsRight, NextRightsAreAll, NoRightAfter, right_key, right_order}
 use Rattle.access_matrix.specs.declared.deed.Right.{Right}
 use Rattle.access_matrix.proofs.Awaited.{deed_there, domain_at, same_place}
 use Rattle.access_matrix.proofs.Counted.{place_total}
@@ -15,7 +15,7 @@ use Rattle.access_matrix.proofs.Counted.{place_total}
 -- rights in the same place are the same
 same_right : (a b : Right) → right_order a b ≡ Equal → a ≡ b
 same_right a b is =
-    let place = same_place (place_of a) (place_of b) is in
+    let place = same_place (right_key a) (right_key b) is in
     λ i. record { domain = domain_at a b place i; deed = deed_there a b place i }
 
 all_later : (next : Right) (rights : List Right) → ((right : Right) → Contains rights right → right_order next right ≡ Less)
@@ -27,7 +27,7 @@ all_later next (right ∷ rights) later =
 module _ (registry : Registry) where
   earlier : (last : Option Right) (next right : Right) → ComesAfter last next → ComesAfter (Some next) right → ComesAfter last right
   earlier None next right first second = tt
-  earlier (Some last) next right first second = place_total.trans (place_of last) (place_of next) (place_of right) first second
+  earlier (Some last) next right first second = place_total.trans (right_key last) (right_key next) (right_key right) first second
 
   -- each of them is a right after the last one
   each_follows : (last : Option Right) (rights : List Right) (end : Option Right) → AreNextRights registry last rights end → (right : Right)

@@ -10,18 +10,18 @@ use Rattle.policy_machine.proofs.Approved.{one_holder}
 use Rattle.policy_machine.specs.CommandForm.{FailsFirst}
 use Rattle.tokens_receipts.specs.Receipt.{with_length}
 use Rattle.tokens_receipts.specs.Token.{token}
-use Rattle.access_matrix.specs.Commands.{HasFront, HasP2, IsCommandOf, IsFreeAid, IsTokenFor, end_of, form_of, judged_as, module_for, numbered_aid, p1_of, privileges_for, turned}
+use Rattle.access_matrix.specs.Commands.{HasFront, HasP2, IsCommandOf, IsFirstFreeAid, IsTokenFor, end_of, form_of, judged_as, module_for, numbered_aid, p1_of, privileges_for, with_other_lock}
 use Rattle.access_matrix.specs.Deeds.{IsThing}
-use Rattle.access_matrix.specs.Passing.{IsAccepted}
+use Rattle.access_matrix.specs.Passing.{IsDeedAccepted}
 use Rattle.access_matrix.specs.There.{judged_there, plain}
 use Rattle.access_matrix.specs.declared.deed.Deed.{Deed}
 use Rattle.access_matrix.specs.declared.deed.Deed.TheVariants.{Delete, Lock, Install, Load}
 
 -- no first free AID is below another
-not_lower : {P : Type 0} (registry : Registry) (a b : List ℕ) → (one : IsFreeAid registry a) (other : IsFreeAid registry b) → one.number < other.number → P
+not_lower : {P : Type 0} (registry : Registry) (a b : List ℕ) → (one : IsFirstFreeAid registry a) (other : IsFirstFreeAid registry b) → one.number < other.number → P
 not_lower registry a b one other lower = absurd (one.free (subst (IsThing registry) (sym one.is) (other.first one.number lower)))
 
-one_free : (registry : Registry) (a b : List ℕ) → IsFreeAid registry a → IsFreeAid registry b → a ≡ b
+one_free : (registry : Registry) (a b : List ℕ) → IsFirstFreeAid registry a → IsFirstFreeAid registry b → a ≡ b
 one_free registry a b one other = elim (cases_order one.number other.number) [
   | inl same ↦ one.is ∙ ap numbered_aid same ∙ sym other.is
   | inr differs ↦ elim differs [
@@ -30,8 +30,8 @@ one_free registry a b one other = elim (cases_order one.number other.number) [
   ]
 ]
 
-one_lock : (found : Option Entry) (p q : ℕ) → MatchOption found ⊥ (λ entry. p ≡ life_mark_code (turned entry.life))
-    → MatchOption found ⊥ (λ entry. q ≡ life_mark_code (turned entry.life)) → p ≡ q
+one_lock : (found : Option Entry) (p q : ℕ) → MatchOption found ⊥ (λ entry. p ≡ life_mark_code (with_other_lock entry.life))
+    → MatchOption found ⊥ (λ entry. q ≡ life_mark_code (with_other_lock entry.life)) → p ≡ q
 one_lock None p q one other = absurd one
 one_lock (Some entry) p q one other = one ∙ sym other
 
@@ -80,7 +80,7 @@ module _ (registry : Registry) where
 
     -- whether its command passes tells whether the deed is accepted
     pub accepted_by : (deed : Deed) (command : Apdu) → IsCommandOf registry domain deed command → {told : Type 0}
-        → told ↔ FailsFirst (form_of deed) (judged_there registry domain command) None → told ↔ IsAccepted registry domain deed
+        → told ↔ FailsFirst (form_of deed) (judged_there registry domain command) None → told ↔ IsDeedAccepted registry domain deed
     accepted_by deed command is tells = (
       λ so. (command, is, tells.0 so),
       λ accepted. tells.1

@@ -6,7 +6,7 @@ use Rattle.std.specs.declared.cmp.Ordering.{Ordering}
 use Rattle.std.specs.declared.cmp.Ordering.TheVariants.{Less, Equal, Greater}
 use Rattle.card_types.specs.Aid.{aid_order}
 use Rattle.card_types.proofs.SameAid.{aid_equal_itself, aid_equal_same}
-use Rattle.access_matrix.specs.Next.{IsNext, IsPast, NoneNext, place_order}
+use Rattle.access_matrix.specs.Next.{IsNextByKey, IsPast, NoneNext, place_order}
 
 pub not_greater : (o : Ordering) → o ≡ Less → o ≢ Greater
 not_greater o less greater = cc
@@ -64,7 +64,7 @@ module _ {X Z : Type 0} (Has : X → List ℕ → Type 0) (HasZ : Z → List (Li
   from_past None a past = tt
   from_past (Some l) a past = sym (alike l a) ∙ past
 
-  pub wrapped_next : (last : Option (List ℕ)) (x : X) → IsNext Has aid_order last x → IsNext HasZ place_order (option_map place last) (wrap x)
+  pub wrapped_next : (last : Option (List ℕ)) (x : X) → IsNextByKey Has aid_order last x → IsNextByKey HasZ place_order (option_map place last) (wrap x)
   wrapped_next last x next = record {
     key = place next.key;
     has = to x next.key next.has;
@@ -94,8 +94,8 @@ pub record Paired {X Y : Type 0} (HasX : X → List ℕ → Type 0) (HasY : Y �
 module _ {X Y Z : Type 0} (HasX : X → List ℕ → Type 0) (HasY : Y → List (List ℕ) → Type 0) (HasZ : Z → List (List ℕ) → Type 0) (pair : X → Y → Z)
     (to : (x : X) (a : List ℕ) → HasX x a → (y : Y) (b : List (List ℕ)) → HasY y b → HasZ (pair x y) (a ∷ b))
     (from : (z : Z) (p : List (List ℕ)) → HasZ z p → Paired HasX HasY p) where
-  pub next_second : (x : X) (a : List ℕ) → HasX x a → (b : List (List ℕ)) (y : Y) → IsNext HasY place_order (Some b) y
-      → IsNext HasZ place_order (Some (a ∷ b)) (pair x y)
+  pub next_second : (x : X) (a : List ℕ) → HasX x a → (b : List (List ℕ)) (y : Y) → IsNextByKey HasY place_order (Some b) y
+      → IsNextByKey HasZ place_order (Some (a ∷ b)) (pair x y)
   next_second x a has_x b y next = record {
     key = a ∷ next.key;
     has = to x a has_x y next.key next.has;
@@ -116,8 +116,8 @@ module _ {X Y Z : Type 0} (HasX : X → List ℕ → Type 0) (HasY : Y → List 
   abbrev pub NoneLeft : List ℕ → List (List ℕ) → Type 0
   NoneLeft a b = (x : X) → HasX x a → NoneNext HasY place_order (Some b)
 
-  pub next_first : (a : List ℕ) (b : List (List ℕ)) → NoneLeft a b → (x : X) → IsNext HasX aid_order (Some a) x → (y : Y) → IsNext HasY place_order None y
-      → IsNext HasZ place_order (Some (a ∷ b)) (pair x y)
+  pub next_first : (a : List ℕ) (b : List (List ℕ)) → NoneLeft a b → (x : X) → IsNextByKey HasX aid_order (Some a) x → (y : Y) → IsNextByKey HasY place_order None y
+      → IsNextByKey HasZ place_order (Some (a ∷ b)) (pair x y)
   next_first a b none x first y second = record {
     key = first.key ∷ second.key;
     has = to x first.key first.has y second.key second.has;
@@ -132,7 +132,7 @@ module _ {X Y Z : Type 0} (HasX : X → List ℕ → Type 0) (HasY : Y → List 
         ]));
   }
 
-  pub first_pair : (x : X) → IsNext HasX aid_order None x → (y : Y) → IsNext HasY place_order None y → IsNext HasZ place_order None (pair x y)
+  pub first_pair : (x : X) → IsNextByKey HasX aid_order None x → (y : Y) → IsNextByKey HasY place_order None y → IsNextByKey HasZ place_order None (pair x y)
   first_pair x first y second = record {
     key = first.key ∷ second.key;
     has = to x first.key first.has y second.key second.has;

@@ -8,7 +8,7 @@ use Rattle.std.proofs.lemmas.Cmp.{nat_list_cmp_total}
 use Rattle.card_types.specs.Aid.{aid_order, same_aid}
 use Rattle.card_types.specs.Search.{is_above, IsLeast, NoneFits}
 use Rattle.card_types.specs.Privileges.{has, security_domain}
-use Rattle.card_types.specs.Represents.{held}
+use Rattle.card_types.specs.Represents.{thing_in}
 use Rattle.card_types.specs.declared.found.Found.{Found}
 use Rattle.card_types.specs.declared.found.Found.TheVariants as found
 use Rattle.card_types.specs.declared.tables.Entry.{Entry}
@@ -19,7 +19,7 @@ use Rattle.card_types.proofs.Next.{above_from, held_from_name, to_above}
 use Rattle.card_types.proofs.NotAbove.{not_above_third}
 use Rattle.card_types.proofs.SameAid.{same_aid_decides}
 use Rattle.access_matrix.specs.Deeds.{HoldsDomain}
-use Rattle.access_matrix.specs.Next.{HasDomain, HasEntry, HasFile, HasThing, IsNext, IsPast, NoneNext}
+use Rattle.access_matrix.specs.Next.{HasDomain, HasEntry, HasFile, HasThing, IsNextByKey, IsPast, NoneNext}
 
 pub past_from : (after : Option (List ℕ)) (aid : List ℕ) → is_above after aid ≡ true → IsPast aid_order after aid
 past_from None aid is = tt
@@ -31,13 +31,13 @@ to_past (Some after) aid past = to_above (Some after) aid past
 
 -- the slots hold, of what fits, just what has an AID past the last one
 record Scans {T : Type 0} (name : T → List ℕ) (slots : List (Option T)) (fits : T → Bool) (Has : ℕ → List ℕ → Type 0) (after : Option (List ℕ)) : Type 0 where
-  there : (slot : ℕ) (thing : T) → held slots slot ≡ Some thing → fits thing ≡ true → Has slot (name thing) × IsPast aid_order after (name thing)
+  there : (slot : ℕ) (thing : T) → thing_in slots slot ≡ Some thing → fits thing ≡ true → Has slot (name thing) × IsPast aid_order after (name thing)
   back : (slot : ℕ) (aid : List ℕ) → Has slot aid → IsPast aid_order after aid
-      → (thing : T) × (held slots slot ≡ Some thing) × (fits thing ≡ true) × (name thing ≡ aid)
+      → (thing : T) × (thing_in slots slot ≡ Some thing) × (fits thing ≡ true) × (name thing ≡ aid)
 
 module _ {T : Type 0} (name : T → List ℕ) (slots : List (Option T)) (fits : T → Bool) (Has : ℕ → List ℕ → Type 0) (after : Option (List ℕ))
     (scans : Scans name slots fits Has after) where
-  scan_some : (slot : ℕ) (thing : T) → IsLeast fits (λ a b. aid_order (name a) (name b)) slots slot thing → IsNext Has aid_order after slot
+  scan_some : (slot : ℕ) (thing : T) → IsLeast fits (λ a b. aid_order (name a) (name b)) slots slot thing → IsNextByKey Has aid_order after slot
   scan_some slot thing is =
       let there = scans.there slot thing is.at is.fitting in
       record {
@@ -55,16 +55,16 @@ module _ {T : Type 0} (name : T → List ℕ) (slots : List (Option T)) (fits : 
       none slot at.0 at.1 at.2
 
 -- a slot with a security domain
-pub holds_domain : (tables : Tables) (slot : ℕ) (entry : Entry) → held tables.entries.items slot ≡ Some entry → has security_domain entry.privileges ≡ true
+pub holds_domain : (tables : Tables) (slot : ℕ) (entry : Entry) → thing_in tables.entries.items slot ≡ Some entry → has security_domain entry.privileges ≡ true
     → HoldsDomain tables slot
 holds_domain tables slot entry at domain = rw at domain
 
 pub held_domain : (tables : Tables) (slot : ℕ) → HoldsDomain tables slot
-    → (entry : Entry) × (held tables.entries.items slot ≡ Some entry) × (has security_domain entry.privileges ≡ true)
-held_domain tables slot holds = by (held tables.entries.items slot) refl
+    → (entry : Entry) × (thing_in tables.entries.items slot ≡ Some entry) × (has security_domain entry.privileges ≡ true)
+held_domain tables slot holds = by (thing_in tables.entries.items slot) refl
   where
-    by : (o : Option Entry) → held tables.entries.items slot ≡ o
-        → (entry : Entry) × (held tables.entries.items slot ≡ Some entry) × (has security_domain entry.privileges ≡ true)
+    by : (o : Option Entry) → thing_in tables.entries.items slot ≡ o
+        → (entry : Entry) × (thing_in tables.entries.items slot ≡ Some entry) × (has security_domain entry.privileges ≡ true)
     by None is = absurd (rw is at holds)
     by (Some entry) is = (entry, is, rw is at holds)
 
@@ -97,14 +97,14 @@ module _ (tables : Tables) (after : Option (List ℕ)) where
   }
 
   pub next_entry_is : (slot : ℕ) (entry : Entry) → IsLeast (λ e. is_above after e.aid) (λ a b. aid_order a.aid b.aid) tables.entries.items slot entry
-      → IsNext (HasEntry tables) aid_order after slot
+      → IsNextByKey (HasEntry tables) aid_order after slot
   next_entry_is slot entry is = scan_some _ _ _ _ after entries_scan slot entry is
 
   pub no_next_entry : NoneFits (λ (e : Entry). is_above after e.aid) tables.entries.items → NoneNext (HasEntry tables) aid_order after
   no_next_entry none = scan_none _ _ _ _ after entries_scan none
 
   pub next_file_is : (slot : ℕ) (file : LoadFile) → IsLeast (λ f. is_above after f.aid) (λ a b. aid_order a.aid b.aid) tables.files.items slot file
-      → IsNext (HasFile tables) aid_order after slot
+      → IsNextByKey (HasFile tables) aid_order after slot
   next_file_is slot file is = scan_some _ _ _ _ after files_scan slot file is
 
   pub no_next_file : NoneFits (λ (f : LoadFile). is_above after f.aid) tables.files.items → NoneNext (HasFile tables) aid_order after
@@ -112,7 +112,7 @@ module _ (tables : Tables) (after : Option (List ℕ)) where
 
   pub next_domain_is : (slot : ℕ) (entry : Entry)
       → IsLeast (λ e. has security_domain e.privileges && is_above after e.aid) (λ a b. aid_order a.aid b.aid) tables.entries.items slot entry
-      → IsNext (HasDomain tables) aid_order after slot
+      → IsNextByKey (HasDomain tables) aid_order after slot
   next_domain_is slot entry is = scan_some _ _ _ _ after domains_scan slot entry is
 
   pub no_next_domain : NoneFits (λ (e : Entry). has security_domain e.privileges && is_above after e.aid) tables.entries.items
@@ -121,8 +121,8 @@ module _ (tables : Tables) (after : Option (List ℕ)) where
 
   -- the next thing is an entry where no file past the last one is below it
   pub entry_is_next : (slot : ℕ) (entry : Entry) → IsLeast (λ e. is_above after e.aid) (λ a b. aid_order a.aid b.aid) tables.entries.items slot entry
-      → ((other : ℕ) (file : LoadFile) → held tables.files.items other ≡ Some file → is_above after file.aid ≡ true → aid_order entry.aid file.aid ≢ Greater)
-      → IsNext (HasThing tables) aid_order after (found.Entry slot)
+      → ((other : ℕ) (file : LoadFile) → thing_in tables.files.items other ≡ Some file → is_above after file.aid ≡ true → aid_order entry.aid file.aid ≢ Greater)
+      → IsNextByKey (HasThing tables) aid_order after (found.Entry slot)
   entry_is_next slot entry is files =
       let there = entries_scan.there slot entry is.at is.fitting in
       record { key = entry.aid; has = there.0; past = there.1; least = least }
@@ -136,8 +136,8 @@ module _ (tables : Tables) (after : Option (List ℕ)) where
           subst (λ (aid : List ℕ). aid_order entry.aid aid ≢ Greater) at.3 (files other at.0 at.1 at.2))
 
   pub file_is_next : (slot : ℕ) (file : LoadFile) → IsLeast (λ f. is_above after f.aid) (λ a b. aid_order a.aid b.aid) tables.files.items slot file
-      → ((other : ℕ) (entry : Entry) → held tables.entries.items other ≡ Some entry → is_above after entry.aid ≡ true → aid_order file.aid entry.aid ≢ Greater)
-      → IsNext (HasThing tables) aid_order after (found.File slot)
+      → ((other : ℕ) (entry : Entry) → thing_in tables.entries.items other ≡ Some entry → is_above after entry.aid ≡ true → aid_order file.aid entry.aid ≢ Greater)
+      → IsNextByKey (HasThing tables) aid_order after (found.File slot)
   file_is_next slot file is entries =
       let there = files_scan.there slot file is.at is.fitting in
       record { key = file.aid; has = there.0; past = there.1; least = least }
@@ -165,7 +165,7 @@ not_above_chain a b c first second = by (aid_order a b) refl
     by Greater is = absurd (first is)
 
 -- the one found with an AID is the domain that has it
-pub domain_with : (tables : Tables) (aid : List ℕ) (slot : ℕ) (entry : Entry) → held tables.entries.items slot ≡ Some entry
+pub domain_with : (tables : Tables) (aid : List ℕ) (slot : ℕ) (entry : Entry) → thing_in tables.entries.items slot ≡ Some entry
     → has security_domain entry.privileges && same_aid entry.aid aid ≡ true → HasDomain tables slot aid
 domain_with tables aid slot entry at fits =
     let parts = and_parts (has security_domain entry.privileges) (same_aid entry.aid aid) fits in

@@ -10,7 +10,7 @@ use Rattle.policy_machine.specs.State.{Volatile, without_load}
 use Rattle.policy_machine.specs.declared.instruction.TheConstants.{EXTERNAL_AUTHENTICATE, LOAD, PUT_KEY}
 use Rattle.scp03_card.specs.Opens.{Opens, accepting}
 use Rattle.scp03_card.specs.Session.{Session}
-use Rattle.access_matrix.specs.Accepted.{AcceptsAsJudged, in_session}
+use Rattle.access_matrix.specs.Accepted.{AcceptsAsJudged, state_in_session}
 use Rattle.access_matrix.specs.Commands.{form_of, judged_as}
 use Rattle.access_matrix.specs.There.{judged_there}
 use Rattle.access_matrix.specs.declared.deed.Deed.{Deed}
@@ -52,7 +52,7 @@ secured_is sent is = λ i. record { class = is i; ins = sent.ins; p1 = sent.p1; 
 
 module _ (registry : Registry) (domain : List ℕ) (session : Session) (sent command : Apdu) where
   abbrev in_its_session : Volatile
-  in_its_session = message_joined (class_passed (in_session registry domain session).volatile (secured sent)) 0 (Some (accepting session (secured sent)))
+  in_its_session = message_joined (class_passed (state_in_session registry domain session).volatile (secured sent)) 0 (Some (accepting session (secured sent)))
 
   abbrev there : Volatile
   there = (judged_there registry domain command).at.volatile
@@ -64,7 +64,7 @@ module _ (registry : Registry) (domain : List ℕ) (session : Session) (sent com
   load_alike = by_choice (λ v. v.load ≡ there.load) (sent.ins == LOAD) in_its_session (without_load in_its_session 0) refl refl
 
   alike : sent.ins ≡ command.ins → sent.p1 ≡ command.p1 → sent.p2 ≡ command.p2
-      → AreAlike (admitted_as (in_session registry domain session) (secured sent) (Some (accepting session (secured sent))) command.body) (judged_there registry domain command)
+      → AreAlike (admitted_as (state_in_session registry domain session) (secured sent) (Some (accepting session (secured sent))) command.body) (judged_there registry domain command)
   alike same first second = record {
     registry = refl;
     channel = refl;
@@ -97,9 +97,9 @@ accepted_so opened alikes registry domain session sound living deed command is_t
     let of_deed = subst IsOfDeed (sym ins) (instruction_of deed) in
     let short = subst (λ (c : Apdu). Short c bytes) same sends.short in
     let opens = subst (λ (c : Apdu). Opens session c command.body) same sends.opens in
-    let judges = opened (in_session registry domain session) sound living bytes (secured sent) session command.body short (protected sent.ins of_deed) refl opens
+    let judges = opened (state_in_session registry domain session) sound living bytes (secured sent) session command.body short (protected sent.ins of_deed) refl opens
     (known sent.ins of_deed) outcome step in
-    let judged = alikes (admitted_as (in_session registry domain session) (secured sent) (Some (accepting session (secured sent))) command.body) (judged_there registry domain command)
+    let judged = alikes (admitted_as (state_in_session registry domain session) (secured sent) (Some (accepting session (secured sent))) command.body) (judged_there registry domain command)
     (alike registry domain session sent command sends.ins sends.p1 sends.p2) (not_key sent.ins of_deed) (not_opening sent.ins of_deed) outcome.rule judges in
     passes (form_of deed) (form_listed deed) (judged_there registry domain command) (command_taken registry sound.well domain deed command is_there is) (none_before deed)
     outcome.rule judged

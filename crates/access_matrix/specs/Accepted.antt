@@ -15,8 +15,8 @@ use Rattle.access_matrix.specs.There.{judged_there, with_domain}
 use Rattle.access_matrix.specs.declared.deed.Deed.{Deed}
 
 -- a card that was powered on with this domain selected, where the basic channel has a session besides
-abbrev pub in_session : Registry → List ℕ → Session → State
-in_session registry domain session = record {
+abbrev pub state_in_session : Registry → List ℕ → Session → State
+state_in_session registry domain session = record {
   registry = registry;
   volatile = with_secure_channel (with_domain registry domain).volatile 0 (Secured session);
 }
@@ -35,7 +35,7 @@ pub record IsSentAs (session : Session) (command : Apdu) (bytes : List ℕ) : Ty
 -- deed is judged.
 abbrev pub AcceptsAsJudged : Type 0
 AcceptsAsJudged =
-    (registry : Registry) (domain : List ℕ) (session : Session) → IsSound (in_session registry domain session) → registry.life ≢ Terminated
+    (registry : Registry) (domain : List ℕ) (session : Session) → IsSound (state_in_session registry domain session) → registry.life ≢ Terminated
     → (deed : Deed) (command : Apdu) → IsThere registry deed → IsCommandOf registry domain deed command
-    → (bytes : List ℕ) (outcome : Outcome) → IsSentAs session command bytes → Step (in_session registry domain session) bytes outcome
+    → (bytes : List ℕ) (outcome : Outcome) → IsSentAs session command bytes → Step (state_in_session registry domain session) bytes outcome
     → (outcome.rule ≡ None) ↔ FailsFirst (form_of deed) (judged_there registry domain command) None

@@ -46,7 +46,7 @@ abbrev pub numbered_aid : ℕ → List ℕ
 numbered_aid number = 0xF0 ∷ to_be_bytes w32 number
 
 -- the first of these that names nothing
-pub record IsFreeAid (registry : Registry) (aid : List ℕ) : Type 0 where
+pub record IsFirstFreeAid (registry : Registry) (aid : List ℕ) : Type 0 where
   pub number : ℕ
   pub is : aid ≡ numbered_aid number
   pub free : IsThing registry aid → ⊥
@@ -69,13 +69,13 @@ p1_of (Install file) = 0x0C
 p1_of Load = 0x02
 
 -- the life cycle state with the other lock mark
-abbrev pub turned : LifeMark → LifeMark
-turned mark = record { life = mark.life; locked = not mark.locked }
+abbrev pub with_other_lock : LifeMark → LifeMark
+with_other_lock mark = record { life = mark.life; locked = not mark.locked }
 
 -- what comes from a file goes with it, and an entry gets the other lock mark
 abbrev pub HasP2 : Registry → Deed → ℕ → Type 0
 HasP2 registry (Related file) p2 = p2 ≡ 0x80
-HasP2 registry (Lock aid) p2 = MatchOption (entry_named registry aid) ⊥ (λ entry. p2 ≡ life_mark_code (turned entry.life))
+HasP2 registry (Lock aid) p2 = MatchOption (entry_named registry aid) ⊥ (λ entry. p2 ≡ life_mark_code (with_other_lock entry.life))
 HasP2 registry deed p2 = p2 ≡ 0x00
 
 -- what the data field has before the token: a new thing has a free AID, an application the parameters C9 00, and an Executable Load File
@@ -86,10 +86,10 @@ HasFront registry (Related file) front = front ≡ object_named_by file
 HasFront registry (Lock aid) front = front ≡ aid
 HasFront registry (Move aid domain) front = front ≡ flat_map with_length (domain ∷ [] ∷ aid ∷ [] ∷ [] ∷ [])
 HasFront registry (Install file) front =
-    (new : List ℕ) × IsFreeAid registry new
+    (new : List ℕ) × IsFirstFreeAid registry new
     × (front ≡ flat_map with_length (file ∷ module_for file new ∷ new ∷ privileges_for file ∷ (0xC9 ∷ 0x00 ∷ []) ∷ []))
 HasFront registry Load front =
-    (new : List ℕ) × IsFreeAid registry new × (front ≡ flat_map with_length (new ∷ [] ∷ replicate 32 0 ∷ [] ∷ []))
+    (new : List ℕ) × IsFirstFreeAid registry new × (front ≡ flat_map with_length (new ∷ [] ∷ replicate 32 0 ∷ [] ∷ []))
 
 -- how the token ends it
 abbrev pub end_of : Deed → Option (List ℕ) → List ℕ

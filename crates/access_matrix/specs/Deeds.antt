@@ -2,7 +2,7 @@
 use Rattle.std.specs.Prelude.{◌≡◌, ◌⊎◌, ℕ, List, true, IsSome, MatchOption}
 use Rattle.card_types.specs.Found.{aid_of}
 use Rattle.card_types.specs.Registry.{Registry, entry_named, file_named}
-use Rattle.card_types.specs.Represents.{domain_aid, file_aid, held}
+use Rattle.card_types.specs.Represents.{domain_aid, file_aid, thing_in}
 use Rattle.card_types.specs.Well.{IsDomainNamed}
 use Rattle.card_types.specs.declared.found.Found.{Found}
 use Rattle.card_types.specs.declared.found.Found.TheVariants as found
@@ -42,13 +42,13 @@ deed_of tables slot.Load = Load
 
 -- the slot holds a security domain
 abbrev pub HoldsDomain : Tables → ℕ → Type 0
-HoldsDomain tables slot = MatchOption (held tables.entries.items slot) ⊥ (λ entry. has security_domain entry.privileges ≡ true)
+HoldsDomain tables slot = MatchOption (thing_in tables.entries.items slot) ⊥ (λ entry. has security_domain entry.privileges ≡ true)
 
 -- the slots of an act are used, that of a new domain by a security domain
 abbrev pub AreUsed : Tables → Act → Type 0
 AreUsed tables (slot.Delete thing) = IsSome (aid_of tables thing)
-AreUsed tables (slot.Related file) = IsSome (held tables.files.items file)
-AreUsed tables (slot.Lock entry) = IsSome (held tables.entries.items entry)
+AreUsed tables (slot.Related file) = IsSome (thing_in tables.files.items file)
+AreUsed tables (slot.Lock entry) = IsSome (thing_in tables.entries.items entry)
 AreUsed tables (slot.Move thing domain) = IsSome (aid_of tables thing) × HoldsDomain tables domain
-AreUsed tables (slot.Install file) = IsSome (held tables.files.items file)
+AreUsed tables (slot.Install file) = IsSome (thing_in tables.files.items file)
 AreUsed tables slot.Load = Unit {0}

@@ -1,6 +1,6 @@
 -- For the code inside. The line of a right by slots: whether an entry is locked is read from its slot.
 use Rattle.std.specs.Prelude.{ℕ, List, ◌∷◌, [], ◌++◌, Bool, false, Option, None, Some, codes, cond}
-use Rattle.card_types.specs.Represents.{held}
+use Rattle.card_types.specs.Represents.{thing_in}
 use Rattle.card_types.specs.declared.tables.Entry.{Entry}
 use Rattle.card_types.specs.declared.tables.Tables.{Tables}
 use Rattle.hex.specs.Hex.{encode_lower}
@@ -17,7 +17,7 @@ holds_locked (Some entry) = entry.life.locked
 
 -- the act is about a locked entry
 abbrev pub is_about_locked : Tables → Act → Bool
-is_about_locked tables (slot.Lock entry) = holds_locked (held tables.entries.items entry)
+is_about_locked tables (slot.Lock entry) = holds_locked (thing_in tables.entries.items entry)
 is_about_locked tables act = false
 
 -- what is done, and the line of it, where it is known whether the entry is locked

@@ -12,7 +12,7 @@ use Rattle.card_types.specs.declared.found.Found.TheVariants as found
 use Rattle.card_types.specs.declared.tables.Tables.{Tables}
 use Rattle.access_matrix.specs.Deeds.{AreUsed, HoldsDomain, deed_of}
 use Rattle.access_matrix.specs.May.{May}
-use Rattle.access_matrix.specs.Rights.{goal_of, kind_of, place_of, thing_of}
+use Rattle.access_matrix.specs.Rights.{deed_kind, goal_of, right_key, thing_of}
 use Rattle.access_matrix.specs.declared.act.Act.{Act}
 use Rattle.access_matrix.specs.declared.candidate.Candidate.{Candidate}
 use Rattle.access_matrix.specs.declared.deed.Deed.{Deed}
@@ -24,7 +24,7 @@ IsPast order None key = Unit {0}
 IsPast order (Some last) key = order last key ≡ Less
 
 -- one of those whose key is past the last one, with the least key
-pub record IsNext {X K : Type 0} (Has : X → K → Type 0) (order : K → K → Ordering) (last : Option K) (x : X) : Type 0 where
+pub record IsNextByKey {X K : Type 0} (Has : X → K → Type 0) (order : K → K → Ordering) (last : Option K) (x : X) : Type 0 where
   pub key : K
   pub has : Has x key
   pub past : IsPast order last key
@@ -55,7 +55,7 @@ abbrev pub spot_of : Deed → List (List ℕ)
 spot_of deed = thing_of deed ∷ goal_of deed ∷ []
 
 abbrev pub deed_place : Deed → List (List ℕ)
-deed_place deed = (kind_of deed ∷ []) ∷ spot_of deed
+deed_place deed = (deed_kind deed ∷ []) ∷ spot_of deed
 
 -- the place of one that needs no new domain
 abbrev pub alone : List ℕ → List (List ℕ)
@@ -69,7 +69,7 @@ abbrev pub HasSpot : Tables → ℕ → Act → List (List ℕ) → Type 0
 HasSpot tables kind act spot = HasPlace tables act ((kind ∷ []) ∷ spot)
 
 abbrev pub HasPlaceFrom : Tables → ℕ → Act → List (List ℕ) → Type 0
-HasPlaceFrom tables kind act place = HasPlace tables act place × (kind ≤ kind_of (deed_of tables act))
+HasPlaceFrom tables kind act place = HasPlace tables act place × (kind ≤ deed_kind (deed_of tables act))
 
 -- a candidate by AIDs
 abbrev pub right_of : Tables → Candidate → Right
@@ -80,7 +80,7 @@ abbrev pub IsCandidate : Tables → Candidate → Type 0
 IsCandidate tables candidate = HoldsDomain tables candidate.domain × AreUsed tables candidate.act
 
 abbrev pub HasCandidate : Tables → Candidate → List (List ℕ) → Type 0
-HasCandidate tables candidate place = IsCandidate tables candidate × (place_of (right_of tables candidate) ≡ place)
+HasCandidate tables candidate place = IsCandidate tables candidate × (right_key (right_of tables candidate) ≡ place)
 
 -- the domain may do what the candidate says
 abbrev pub Allows : Registry → Tables → Candidate → Type 0

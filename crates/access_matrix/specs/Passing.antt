@@ -2,7 +2,7 @@
 use Rattle.std.specs.Prelude.{ℕ, Bool, true, false, IsSome, List, None}
 use Rattle.apdu_core.specs.Apdu.{Apdu}
 use Rattle.card_types.specs.Registry.{Registry}
-use Rattle.card_types.specs.Represents.{Represents, held}
+use Rattle.card_types.specs.Represents.{Represents, thing_in}
 use Rattle.card_types.specs.Well.{Well}
 use Rattle.card_types.specs.declared.tables.Tables.{Tables}
 use Rattle.policy_machine.specs.CommandForm.{FailsFirst}
@@ -17,11 +17,11 @@ ForSaid tables So = (page : ℕ → List ℕ) (said : Registry) → Represents p
 
 -- a slot of the entries is used
 abbrev pub IsUsed : Tables → ℕ → Type 0
-IsUsed tables slot = IsSome (held tables.entries.items slot)
+IsUsed tables slot = IsSome (thing_in tables.entries.items slot)
 
 -- the command of the deed is accepted in a session of the domain
-abbrev pub IsAccepted : Registry → List ℕ → Deed → Type 0
-IsAccepted registry domain deed =
+abbrev pub IsDeedAccepted : Registry → List ℕ → Deed → Type 0
+IsDeedAccepted registry domain deed =
     (command : Apdu) × IsCommandOf registry domain deed command × FailsFirst (form_of deed) (judged_there registry domain command) None
 
 -- DELETE of a thing, or of an Executable Load File with what comes from it

@@ -20,13 +20,13 @@ pub record IsRight (registry : Registry) (right : Right) : Type 0 where
   pub may : May registry right.domain right.deed
 
 -- the kinds in their order
-abbrev pub kind_of : Deed → ℕ
-kind_of (Delete aid) = 0
-kind_of (Related file) = 1
-kind_of (Lock aid) = 2
-kind_of (Move aid domain) = 3
-kind_of (Install file) = 4
-kind_of Load = 5
+abbrev pub deed_kind : Deed → ℕ
+deed_kind (Delete aid) = 0
+deed_kind (Related file) = 1
+deed_kind (Lock aid) = 2
+deed_kind (Move aid domain) = 3
+deed_kind (Install file) = 4
+deed_kind Load = 5
 
 -- what a deed is about, and the domain that it goes to
 abbrev pub thing_of : Deed → List ℕ
@@ -42,11 +42,11 @@ goal_of (Move aid domain) = domain
 goal_of deed = []
 
 -- Rights are in the order of their domains, then of their kinds, things and new domains. AIDs are in byte order, a prefix first.
-abbrev pub place_of : Right → List (List ℕ)
-place_of right = right.domain ∷ (kind_of right.deed ∷ []) ∷ thing_of right.deed ∷ goal_of right.deed ∷ []
+abbrev pub right_key : Right → List (List ℕ)
+right_key right = right.domain ∷ (deed_kind right.deed ∷ []) ∷ thing_of right.deed ∷ goal_of right.deed ∷ []
 
 abbrev pub right_order : Right → Right → Ordering
-right_order = on place_of (slice_cmp (slice_cmp nat_cmp))
+right_order = on right_key (slice_cmp (slice_cmp nat_cmp))
 
 -- it comes after this one, if there is one
 abbrev pub ComesAfter : Option Right → Right → Type 0

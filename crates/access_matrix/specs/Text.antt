@@ -10,25 +10,25 @@ abbrev pub is_locked : Option Entry → Bool
 is_locked None = false
 is_locked (Some entry) = entry.life.locked
 
-abbrev pub verb_of : Registry → Deed → List ℕ
-verb_of registry (Delete aid) = codes "delete "
-verb_of registry (Related file) = codes "related "
-verb_of registry (Lock aid) = cond (is_locked (entry_named registry aid)) (codes "unlock ") (codes "lock ")
-verb_of registry (Move aid domain) = codes "move "
-verb_of registry (Install file) = codes "install "
-verb_of registry Load = codes "load "
+abbrev pub deed_verb : Registry → Deed → List ℕ
+deed_verb registry (Delete aid) = codes "delete "
+deed_verb registry (Related file) = codes "related "
+deed_verb registry (Lock aid) = cond (is_locked (entry_named registry aid)) (codes "unlock ") (codes "lock ")
+deed_verb registry (Move aid domain) = codes "move "
+deed_verb registry (Install file) = codes "install "
+deed_verb registry Load = codes "load "
 
 -- an AID in hexadecimal digits, after a space
-abbrev pub named : List ℕ → List ℕ
-named aid = codes " " ++ encode_lower aid
+abbrev pub aid_word : List ℕ → List ℕ
+aid_word aid = codes " " ++ encode_lower aid
 
 abbrev pub names_of : Deed → List ℕ
-names_of (Delete aid) = named aid
-names_of (Related file) = named file
-names_of (Lock aid) = named aid
-names_of (Move aid domain) = named aid ++ named domain
-names_of (Install file) = named file
+names_of (Delete aid) = aid_word aid
+names_of (Related file) = aid_word file
+names_of (Lock aid) = aid_word aid
+names_of (Move aid domain) = aid_word aid ++ aid_word domain
+names_of (Install file) = aid_word file
 names_of Load = []
 
 abbrev pub line_of : Registry → Right → List ℕ
-line_of registry right = verb_of registry right.deed ++ encode_lower right.domain ++ names_of right.deed ++ 10 ∷ []
+line_of registry right = deed_verb registry right.deed ++ encode_lower right.domain ++ names_of right.deed ++ 10 ∷ []

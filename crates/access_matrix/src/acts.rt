@@ -1,7 +1,7 @@
 //! The acts of a security domain, in the order of their deeds.
 
 ghost use Rattle.std.specs.Prelude.{[], ◌∷◌, None, Some, IfSome, IfNone, option_copied, option_map};
-ghost use Rattle.access_matrix.specs.Prelude.{HasLayout, HasPlace, HasPlaceFrom, HasSpot, IsNext, NoneNext, alone, deed_place, kind_of, number, place_order, spot_of};
+ghost use Rattle.access_matrix.specs.Prelude.{HasLayout, HasPlace, HasPlaceFrom, HasSpot, IsNextByKey, NoneNext, alone, deed_kind, deed_place, kind_number, place_order, spot_of};
 
 use crate::act::Act;
 use crate::deed::Deed;
@@ -12,7 +12,7 @@ use card_types::{Aid, Tables, find};
 // DELETE of the thing that comes next.
 fn next_delete(tables: &Tables, after: Option<&Aid>) -> Option<Act>
     requires layout { HasLayout tables.now }
-    ensures some { IfSome result (IsNext (HasSpot tables.now 0) place_order (option_map alone (option_copied after.entry))) }
+    ensures some { IfSome result (IsNextByKey (HasSpot tables.now 0) place_order (option_map alone (option_copied after.entry))) }
     ensures none { IfNone result (NoneNext (HasSpot tables.now 0) place_order (option_map alone (option_copied after.entry))) }
 {
     match next_thing(tables, after) {
@@ -24,7 +24,7 @@ fn next_delete(tables: &Tables, after: Option<&Aid>) -> Option<Act>
 // DELETE of the Executable Load File that comes next, with what comes from it.
 fn next_related(tables: &Tables, after: Option<&Aid>) -> Option<Act>
     requires layout { HasLayout tables.now }
-    ensures some { IfSome result (IsNext (HasSpot tables.now 1) place_order (option_map alone (option_copied after.entry))) }
+    ensures some { IfSome result (IsNextByKey (HasSpot tables.now 1) place_order (option_map alone (option_copied after.entry))) }
     ensures none { IfNone result (NoneNext (HasSpot tables.now 1) place_order (option_map alone (option_copied after.entry))) }
 {
     match next_file(tables, after) {
@@ -36,7 +36,7 @@ fn next_related(tables: &Tables, after: Option<&Aid>) -> Option<Act>
 // SET STATUS of the entry that comes next.
 fn next_lock(tables: &Tables, after: Option<&Aid>) -> Option<Act>
     requires layout { HasLayout tables.now }
-    ensures some { IfSome result (IsNext (HasSpot tables.now 2) place_order (option_map alone (option_copied after.entry))) }
+    ensures some { IfSome result (IsNextByKey (HasSpot tables.now 2) place_order (option_map alone (option_copied after.entry))) }
     ensures none { IfNone result (NoneNext (HasSpot tables.now 2) place_order (option_map alone (option_copied after.entry))) }
 {
     match next_entry(tables, after) {
@@ -48,7 +48,7 @@ fn next_lock(tables: &Tables, after: Option<&Aid>) -> Option<Act>
 // INSTALL [for install and make selectable] from the Executable Load File that comes next.
 fn next_install(tables: &Tables, after: Option<&Aid>) -> Option<Act>
     requires layout { HasLayout tables.now }
-    ensures some { IfSome result (IsNext (HasSpot tables.now 4) place_order (option_map alone (option_copied after.entry))) }
+    ensures some { IfSome result (IsNextByKey (HasSpot tables.now 4) place_order (option_map alone (option_copied after.entry))) }
     ensures none { IfNone result (NoneNext (HasSpot tables.now 4) place_order (option_map alone (option_copied after.entry))) }
 {
     match next_file(tables, after) {
@@ -60,7 +60,7 @@ fn next_install(tables: &Tables, after: Option<&Aid>) -> Option<Act>
 // INSTALL [for extradition] of the first thing to the first security domain.
 fn first_move(tables: &Tables) -> Option<Act>
     requires layout { HasLayout tables.now }
-    ensures some { IfSome result (IsNext (HasSpot tables.now 3) place_order None) }
+    ensures some { IfSome result (IsNextByKey (HasSpot tables.now 3) place_order None) }
     ensures none { IfNone result (NoneNext (HasSpot tables.now 3) place_order None) }
 {
     let Some(thing) = next_thing(tables, None) else {
@@ -75,7 +75,7 @@ fn first_move(tables: &Tables) -> Option<Act>
 // INSTALL [for extradition] of the same thing to the next security domain, or of the next thing to the first one.
 fn next_move(tables: &Tables, thing: &Aid, goal: &Aid) -> Option<Act>
     requires layout { HasLayout tables.now }
-    ensures some { IfSome result (IsNext (HasSpot tables.now 3) place_order (Some (thing.now ∷ goal.now ∷ []))) }
+    ensures some { IfSome result (IsNextByKey (HasSpot tables.now 3) place_order (Some (thing.now ∷ goal.now ∷ []))) }
     ensures none { IfNone result (NoneNext (HasSpot tables.now 3) place_order (Some (thing.now ∷ goal.now ∷ []))) }
 {
     if let Some(found) = find(tables, thing) {
@@ -95,8 +95,8 @@ fn next_move(tables: &Tables, thing: &Aid, goal: &Aid) -> Option<Act>
 // The first act of a kind.
 fn first_of(tables: &Tables, kind: Kind) -> Option<Act>
     requires layout { HasLayout tables.now }
-    ensures some { IfSome result (IsNext (HasSpot tables.now (number kind)) place_order None) }
-    ensures none { IfNone result (NoneNext (HasSpot tables.now (number kind)) place_order None) }
+    ensures some { IfSome result (IsNextByKey (HasSpot tables.now (kind_number kind)) place_order None) }
+    ensures none { IfNone result (NoneNext (HasSpot tables.now (kind_number kind)) place_order None) }
 {
     match kind {
         Kind::Delete => next_delete(tables, None),
@@ -111,8 +111,8 @@ fn first_of(tables: &Tables, kind: Kind) -> Option<Act>
 // The next act of the same kind.
 fn next_like(tables: &Tables, last: &Deed) -> Option<Act>
     requires layout { HasLayout tables.now }
-    ensures some { IfSome result (IsNext (HasSpot tables.now (kind_of last.now)) place_order (Some (spot_of last.now))) }
-    ensures none { IfNone result (NoneNext (HasSpot tables.now (kind_of last.now)) place_order (Some (spot_of last.now))) }
+    ensures some { IfSome result (IsNextByKey (HasSpot tables.now (deed_kind last.now)) place_order (Some (spot_of last.now))) }
+    ensures none { IfNone result (NoneNext (HasSpot tables.now (deed_kind last.now)) place_order (Some (spot_of last.now))) }
 {
     match last {
         Deed::Delete(aid) => next_delete(tables, Some(aid)),
@@ -127,8 +127,8 @@ fn next_like(tables: &Tables, last: &Deed) -> Option<Act>
 // The first act of this kind or a later one.
 fn first_from(tables: &Tables, kind: Kind) -> Option<Act>
     requires layout { HasLayout tables.now }
-    ensures some { IfSome result (IsNext (HasPlaceFrom tables.now (number kind)) place_order None) }
-    ensures none { IfNone result (NoneNext (HasPlaceFrom tables.now (number kind)) place_order None) }
+    ensures some { IfSome result (IsNextByKey (HasPlaceFrom tables.now (kind_number kind)) place_order None) }
+    ensures none { IfNone result (NoneNext (HasPlaceFrom tables.now (kind_number kind)) place_order None) }
 {
     match first_of(tables, kind) {
         Some(act) => Some(act),
@@ -142,7 +142,7 @@ fn first_from(tables: &Tables, kind: Kind) -> Option<Act>
 /// The first act of all, whether or not it may be done.
 pub fn first_act(tables: &Tables) -> Option<Act>
     requires layout { HasLayout tables.now }
-    ensures some { IfSome result (IsNext (HasPlace tables.now) place_order None) }
+    ensures some { IfSome result (IsNextByKey (HasPlace tables.now) place_order None) }
     ensures none { IfNone result (NoneNext (HasPlace tables.now) place_order None) }
 {
     first_from(tables, Kind::Delete)
@@ -151,7 +151,7 @@ pub fn first_act(tables: &Tables) -> Option<Act>
 /// The first act whose deed comes after the last one, whether or not it may be done.
 pub fn next_act(tables: &Tables, last: &Deed) -> Option<Act>
     requires layout { HasLayout tables.now }
-    ensures some { IfSome result (IsNext (HasPlace tables.now) place_order (Some (deed_place last.now))) }
+    ensures some { IfSome result (IsNextByKey (HasPlace tables.now) place_order (Some (deed_place last.now))) }
     ensures none { IfNone result (NoneNext (HasPlace tables.now) place_order (Some (deed_place last.now))) }
 {
     match next_like(tables, last) {

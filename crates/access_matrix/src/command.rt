@@ -1,7 +1,7 @@
 //! The commands of deeds, and whether a card accepts them.
 
 ghost use Rattle.std.specs.Prelude.{◌≡◌, ◌↔◌, [], ◌∷◌, IsTrue};
-ghost use Rattle.access_matrix.specs.Prelude.{ArePrivilegeBytes, ForSaid, IsAccepted, IsAid, IsInOrder, IsUsed, deletion_of, domain_aid, module_for, privileges_for, same_aid};
+ghost use Rattle.access_matrix.specs.Prelude.{ArePrivilegeBytes, ForSaid, IsAid, IsDeedAccepted, IsInOrder, IsUsed, deletion_of, domain_aid, module_for, privileges_for, same_aid};
 ghost use Rattle.access_matrix.specs.declared.deed.Deed.TheVariants as deed;
 ghost use Rattle.card_types.specs.declared.factory.TheConstants.{FACTORY_FILE};
 
@@ -21,7 +21,7 @@ pub(crate) fn deletes(tables: &Tables, domain: u8, aid: Aid, related: bool) -> b
     requires in_order { IsInOrder tables.now }
     requires domain { IsUsed tables.now domain }
     requires aid { IsAid aid }
-    ensures { ForSaid tables.now (λ said. IsTrue result ↔ IsAccepted said (domain_aid tables.now.entries.items domain) (deletion_of related aid)) }
+    ensures { ForSaid tables.now (λ said. IsTrue result ↔ IsDeedAccepted said (domain_aid tables.now.entries.items domain) (deletion_of related aid)) }
 {
     let before = object_field(&aid);
     let p2 = if related { 0x80 } else { 0x00 };
@@ -47,7 +47,7 @@ pub(crate) fn locks(tables: &Tables, domain: u8, slot: u8) -> bool
     requires domain { IsUsed tables.now domain }
     requires entry { IsUsed tables.now slot }
     ensures { ForSaid tables.now (λ said.
-        IsTrue result ↔ IsAccepted said (domain_aid tables.now.entries.items domain) (deed.Lock (domain_aid tables.now.entries.items slot))) }
+        IsTrue result ↔ IsDeedAccepted said (domain_aid tables.now.entries.items domain) (deed.Lock (domain_aid tables.now.entries.items slot))) }
 {
     let entry = in_slot(&tables.entries, slot).unwrap();
     let turned = LifeMark {
@@ -66,7 +66,7 @@ pub(crate) fn locks(tables: &Tables, domain: u8, slot: u8) -> bool
 pub(crate) fn moves(tables: &Tables, domain: u8, aid: Aid, to: Aid) -> bool
     requires in_order { IsInOrder tables.now }
     requires domain { IsUsed tables.now domain }
-    ensures { ForSaid tables.now (λ said. IsTrue result ↔ IsAccepted said (domain_aid tables.now.entries.items domain) (deed.Move aid to)) }
+    ensures { ForSaid tables.now (λ said. IsTrue result ↔ IsDeedAccepted said (domain_aid tables.now.entries.items domain) (deed.Move aid to)) }
 {
     let before = five_fields(to.as_bytes(), &[], aid.as_bytes(), &[], &[]);
     let delegated = is_delegate(tables, domain);
@@ -114,7 +114,7 @@ fn privileges_from(file: &Aid) -> (Privileges, u8)
 pub(crate) fn installs(tables: &Tables, domain: u8, file: Aid) -> bool
     requires in_order { IsInOrder tables.now }
     requires domain { IsUsed tables.now domain }
-    ensures { ForSaid tables.now (λ said. IsTrue result ↔ IsAccepted said (domain_aid tables.now.entries.items domain) (deed.Install file)) }
+    ensures { ForSaid tables.now (λ said. IsTrue result ↔ IsDeedAccepted said (domain_aid tables.now.entries.items domain) (deed.Install file)) }
 {
     let aid = free_aid(tables);
     let module = module_from(&file, &aid);
@@ -149,7 +149,7 @@ pub(crate) fn installs(tables: &Tables, domain: u8, file: Aid) -> bool
 pub(crate) fn loads(tables: &Tables, domain: u8) -> bool
     requires in_order { IsInOrder tables.now }
     requires domain { IsUsed tables.now domain }
-    ensures { ForSaid tables.now (λ said. IsTrue result ↔ IsAccepted said (domain_aid tables.now.entries.items domain) deed.Load) }
+    ensures { ForSaid tables.now (λ said. IsTrue result ↔ IsDeedAccepted said (domain_aid tables.now.entries.items domain) deed.Load) }
 {
     let file = free_aid(tables);
     let before = four_fields(file.as_bytes(), &[], &[0; 32], &[]);

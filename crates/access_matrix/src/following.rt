@@ -2,7 +2,7 @@
 
 ghost use Rattle.std.specs.Prelude.{◌&&◌, ℕ, IfSome, IfNone, option_copied};
 ghost use Rattle.std.proofs.lemmas.Cmp.{nat_list_cmp_total, on_total};
-ghost use Rattle.access_matrix.specs.Prelude.{HasDomain, HasEntry, HasFile, HasLayout, HasThing, IsNext, NoneNext, aid_order, has, is_above, same_aid, security_domain};
+ghost use Rattle.access_matrix.specs.Prelude.{HasDomain, HasEntry, HasFile, HasLayout, HasThing, IsNextByKey, NoneNext, aid_order, has, is_above, same_aid, security_domain};
 
 use bitflags::Flags;
 use card_types::{
@@ -60,7 +60,7 @@ pub fn find_domain(tables: &Tables, aid: &Aid) -> Option<u8>
 /// The security domain with the least AID past the given one, or with the least of all.
 pub fn next_domain(tables: &Tables, after: Option<&Aid>) -> Option<u8>
     requires layout { HasLayout tables.now }
-    ensures some { IfSome result (IsNext (HasDomain tables.now) aid_order (option_copied after.entry)) }
+    ensures some { IfSome result (IsNextByKey (HasDomain tables.now) aid_order (option_copied after.entry)) }
     ensures none { IfNone result (NoneNext (HasDomain tables.now) aid_order (option_copied after.entry)) }
 {
     let domains = DomainsPast {
@@ -75,7 +75,7 @@ pub fn next_domain(tables: &Tables, after: Option<&Aid>) -> Option<u8>
 /// The entry with the least AID past the given one, or with the least of all.
 pub fn next_entry(tables: &Tables, after: Option<&Aid>) -> Option<u8>
     requires layout { HasLayout tables.now }
-    ensures some { IfSome result (IsNext (HasEntry tables.now) aid_order (option_copied after.entry)) }
+    ensures some { IfSome result (IsNextByKey (HasEntry tables.now) aid_order (option_copied after.entry)) }
     ensures none { IfNone result (NoneNext (HasEntry tables.now) aid_order (option_copied after.entry)) }
 {
     match least(&tables.entries, &Following { after }) {
@@ -87,7 +87,7 @@ pub fn next_entry(tables: &Tables, after: Option<&Aid>) -> Option<u8>
 /// The Executable Load File with the least AID past the given one, or with the least of all.
 pub fn next_file(tables: &Tables, after: Option<&Aid>) -> Option<u8>
     requires layout { HasLayout tables.now }
-    ensures some { IfSome result (IsNext (HasFile tables.now) aid_order (option_copied after.entry)) }
+    ensures some { IfSome result (IsNextByKey (HasFile tables.now) aid_order (option_copied after.entry)) }
     ensures none { IfNone result (NoneNext (HasFile tables.now) aid_order (option_copied after.entry)) }
 {
     match least(&tables.files, &Following { after }) {
@@ -99,7 +99,7 @@ pub fn next_file(tables: &Tables, after: Option<&Aid>) -> Option<u8>
 /// The thing with the least AID past the given one, or with the least of all.
 pub fn next_thing(tables: &Tables, after: Option<&Aid>) -> Option<Found>
     requires layout { HasLayout tables.now }
-    ensures some { IfSome result (IsNext (HasThing tables.now) aid_order (option_copied after.entry)) }
+    ensures some { IfSome result (IsNextByKey (HasThing tables.now) aid_order (option_copied after.entry)) }
     ensures none { IfNone result (NoneNext (HasThing tables.now) aid_order (option_copied after.entry)) }
 {
     let following = Following { after };

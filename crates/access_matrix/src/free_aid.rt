@@ -2,7 +2,7 @@
 
 ghost use Rattle.std.specs.Prelude.{◌≡◌, ℕ, List};
 ghost use Rattle.access_matrix.specs.Commands as commands;
-ghost use Rattle.access_matrix.specs.Prelude.{IsFreeAid, IsInOrder, Registry, Represents};
+ghost use Rattle.access_matrix.specs.Prelude.{IsFirstFreeAid, IsInOrder, Registry, Represents};
 
 use card_types::{Aid, ENTRIES, FILES, Tables, find};
 
@@ -21,7 +21,7 @@ fn numbered_aid(number: u32) -> Aid
 /// a load session is none of these.
 pub(crate) fn free_aid(tables: &Tables) -> Aid
     requires in_order { IsInOrder tables.now }
-    ensures { (page : ℕ → List ℕ) (said : Registry) → Represents page tables.now said → IsFreeAid said result }
+    ensures { (page : ℕ → List ℕ) (said : Registry) → Represents page tables.now said → IsFirstFreeAid said result }
 {
     for number in 0..THINGS {
         let aid = numbered_aid(number);

@@ -1,7 +1,7 @@
 //! The kinds of deeds.
 
 ghost use Rattle.std.specs.Prelude.{◌≡◌, ◌+◌, MatchOption};
-ghost use Rattle.access_matrix.specs.Kinds.{number};
+ghost use Rattle.access_matrix.specs.Kinds.{kind_number};
 ghost use Rattle.access_matrix.specs.Rights as rights;
 
 use crate::deed::Deed;
@@ -20,7 +20,7 @@ pub enum Kind {
 impl Kind {
     /// The kind of a deed.
     pub fn of(deed: &Deed) -> Kind
-        ensures { number result ≡ rights.kind_of deed.now }
+        ensures { kind_number result ≡ rights.deed_kind deed.now }
     {
         match deed {
             Deed::Delete(_) => Kind::Delete,
@@ -34,7 +34,7 @@ impl Kind {
 
     /// The kind that comes next, if it is not the last.
     pub fn next(self) -> Option<Kind>
-        ensures { MatchOption result (number self ≡ 5) (λ later. number later ≡ number self + 1) }
+        ensures { MatchOption result (kind_number self ≡ 5) (λ later. kind_number later ≡ kind_number self + 1) }
     {
         match self {
             Kind::Delete => Some(Kind::Related),

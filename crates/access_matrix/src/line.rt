@@ -1,7 +1,7 @@
 //! The line of a right.
 
 ghost use Rattle.std.specs.Prelude.{◌≡◌, ◌≤◌, ◌+◌, ◌++◌, []};
-ghost use Rattle.access_matrix.specs.Prelude.{array_vec_len, is_about_locked, line_as, named, names_of, names_room, verb_as};
+ghost use Rattle.access_matrix.specs.Prelude.{aid_word, array_vec_len, is_about_locked, line_as, names_of, names_room, verb_as};
 
 use crate::act::Act;
 use crate::deed::{Deed, Right};
@@ -50,7 +50,7 @@ fn push_verb(deed: &Deed, locked: bool, line: &mut ArrayVec<u8, LINE_ROOM>)
 // A space and an AID.
 fn push_name(aid: &Aid, line: &mut ArrayVec<u8, LINE_ROOM>)
     requires room { array_vec_len line.old + 33 ≤ 104 }
-    ensures written { line.new.items ≡ line.old.items ++ named aid.now }
+    ensures written { line.new.items ≡ line.old.items ++ aid_word aid.now }
     ensures size { array_vec_len line.new ≤ array_vec_len line.old + 33 }
 {
     push_word(b" ", line);

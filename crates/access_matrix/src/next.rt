@@ -1,7 +1,7 @@
 //! The next candidate, and the next right.
 
 ghost use Rattle.std.specs.Prelude.{ℕ, List, None, Some, IfSome, IfNone, option_copied, option_map};
-ghost use Rattle.access_matrix.specs.Prelude.{HasAllowed, HasCandidate, HasLayout, IsInOrder, IsNext, NoneNext, Registry, Represents, place_of, place_order};
+ghost use Rattle.access_matrix.specs.Prelude.{HasAllowed, HasCandidate, HasLayout, IsInOrder, IsNextByKey, NoneNext, Registry, Represents, place_order, right_key};
 
 use crate::acts::{first_act, next_act};
 use crate::candidate::Candidate;
@@ -14,7 +14,7 @@ use card_types::Tables;
 // The first candidate of all.
 fn first_candidate(tables: &Tables) -> Option<Candidate>
     requires layout { HasLayout tables.now }
-    ensures some { IfSome result (IsNext (HasCandidate tables.now) place_order None) }
+    ensures some { IfSome result (IsNextByKey (HasCandidate tables.now) place_order None) }
     ensures none { IfNone result (NoneNext (HasCandidate tables.now) place_order None) }
 {
     let Some(domain) = next_domain(tables, None) else {
@@ -29,8 +29,8 @@ fn first_candidate(tables: &Tables) -> Option<Candidate>
 // The first candidate that comes after the last right: the next act of its domain, or the first act of the next domain.
 fn candidate_after(tables: &Tables, last: &Right) -> Option<Candidate>
     requires layout { HasLayout tables.now }
-    ensures some { IfSome result (IsNext (HasCandidate tables.now) place_order (Some (place_of last.now))) }
-    ensures none { IfNone result (NoneNext (HasCandidate tables.now) place_order (Some (place_of last.now))) }
+    ensures some { IfSome result (IsNextByKey (HasCandidate tables.now) place_order (Some (right_key last.now))) }
+    ensures none { IfNone result (NoneNext (HasCandidate tables.now) place_order (Some (right_key last.now))) }
 {
     if let Some(domain) = find_domain(tables, &last.domain) {
         if let Some(act) = next_act(tables, &last.deed) {
@@ -49,8 +49,8 @@ fn candidate_after(tables: &Tables, last: &Right) -> Option<Candidate>
 // The first candidate that comes after the last right, or the first of all.
 fn next_candidate(tables: &Tables, last: Option<&Right>) -> Option<Candidate>
     requires layout { HasLayout tables.now }
-    ensures some { IfSome result (IsNext (HasCandidate tables.now) place_order (option_map place_of (option_copied last.entry))) }
-    ensures none { IfNone result (NoneNext (HasCandidate tables.now) place_order (option_map place_of (option_copied last.entry))) }
+    ensures some { IfSome result (IsNextByKey (HasCandidate tables.now) place_order (option_map right_key (option_copied last.entry))) }
+    ensures none { IfNone result (NoneNext (HasCandidate tables.now) place_order (option_map right_key (option_copied last.entry))) }
 {
     match last {
         Some(last) => candidate_after(tables, last),
@@ -62,9 +62,9 @@ fn next_candidate(tables: &Tables, last: Option<&Right>) -> Option<Candidate>
 pub fn next_right(tables: &Tables, last: Option<&Right>) -> Option<Candidate>
     requires in_order { IsInOrder tables.now }
     ensures some { (page : ℕ → List ℕ) (said : Registry) → Represents page tables.now said
-        → IfSome result (IsNext (HasAllowed said tables.now) place_order (option_map place_of (option_copied last.entry))) }
+        → IfSome result (IsNextByKey (HasAllowed said tables.now) place_order (option_map right_key (option_copied last.entry))) }
     ensures none { (page : ℕ → List ℕ) (said : Registry) → Represents page tables.now said
-        → IfNone result (NoneNext (HasAllowed said tables.now) place_order (option_map place_of (option_copied last.entry))) }
+        → IfNone result (NoneNext (HasAllowed said tables.now) place_order (option_map right_key (option_copied last.entry))) }
 {
     let mut next = next_candidate(tables, last);
     while let Some(candidate) = next {

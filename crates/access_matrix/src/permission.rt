@@ -1,7 +1,7 @@
 //! Whether a security domain may do a deed.
 
 ghost use Rattle.std.specs.Prelude.{◌↔◌, ℕ, List, IsTrue};
-ghost use Rattle.access_matrix.specs.Prelude.{AreUsed, ForSaid, HoldsDomain, IsAccepted, IsInOrder, IsUsed, May, Registry, Represents, deed_of, domain_aid};
+ghost use Rattle.access_matrix.specs.Prelude.{AreUsed, ForSaid, HoldsDomain, IsDeedAccepted, IsInOrder, IsUsed, May, Registry, Represents, deed_of, domain_aid};
 
 use crate::acceptance::{is_selectable, offers_session};
 use crate::act::Act;
@@ -14,7 +14,7 @@ fn accepts(tables: &Tables, domain: u8, act: &Act) -> bool
     requires in_order { IsInOrder tables.now }
     requires domain { IsUsed tables.now domain }
     requires used { AreUsed tables.now act.now }
-    ensures { ForSaid tables.now (λ said. IsTrue result ↔ IsAccepted said (domain_aid tables.now.entries.items domain) (deed_of tables.now act.now)) }
+    ensures { ForSaid tables.now (λ said. IsTrue result ↔ IsDeedAccepted said (domain_aid tables.now.entries.items domain) (deed_of tables.now act.now)) }
 {
     match *act {
         Act::Delete(thing) => deletes(tables, domain, thing_aid(tables, thing), false),

@@ -1,7 +1,7 @@
 //! The AIDs of things, by their slots.
 
 ghost use Rattle.std.specs.Prelude.{◌≡◌, IsSome};
-ghost use Rattle.access_matrix.specs.Prelude.{IsAid, IsInOrder, IsUsed, aid_of, domain_aid, file_aid, found_aid, held};
+ghost use Rattle.access_matrix.specs.Prelude.{IsAid, IsInOrder, IsUsed, aid_of, domain_aid, file_aid, found_aid, thing_in};
 
 use card_types::{Aid, Found, Tables, in_slot};
 
@@ -18,7 +18,7 @@ pub(crate) fn entry_aid(tables: &Tables, slot: u8) -> Aid
 /// The AID of the Executable Load File in a slot that is used.
 pub(crate) fn load_file_aid(tables: &Tables, slot: u8) -> Aid
     requires in_order { IsInOrder tables.now }
-    requires used { IsSome (held tables.now.files.items slot) }
+    requires used { IsSome (thing_in tables.now.files.items slot) }
     ensures aid { IsAid result }
     ensures named { result ≡ file_aid tables.now.files.items slot }
 {

@@ -101,16 +101,16 @@ pub answer : List ℕ → Result (ℕ × List ℕ × List ℕ) TlvError
 answer bytes = tag_answer (length bytes) (tag_field bytes)
 
 -- the answer once the tag field is whole, and once the length field is
-behind_tag : (t : ℕ) (field rest bytes : List ℕ) → AfterTag t field rest bytes →
+past_tag : (t : ℕ) (field rest bytes : List ℕ) → AfterTag t field rest bytes →
     answer bytes ≡ length_answer (length bytes) t (length field) (length_field rest)
 unfolding answer
-behind_tag t field rest bytes h = ap (tag_answer (length bytes)) (whole_tag t field rest bytes h)
+past_tag t field rest bytes h = ap (tag_answer (length bytes)) (whole_tag t field rest bytes h)
 
-behind_length : (t n : ℕ) (field size_field rest value bytes : List ℕ) →
+past_length : (t n : ℕ) (field size_field rest value bytes : List ℕ) →
     AfterTag t field rest bytes → AfterLength n size_field value rest →
     answer bytes ≡ value_answer (length bytes) t n value
-behind_length t n field size_field rest value bytes h k =
-    behind_tag t field rest bytes h
+past_length t n field size_field rest value bytes h k =
+    past_tag t field rest bytes h
     ∙ ap (length_answer (length bytes) t (length field)) (whole_length n size_field value rest k)
 
 whole_value : (end tag : ℕ) (value rest : List ℕ) →
@@ -129,7 +129,7 @@ pub answer_found : (t : ℕ) (value rest bytes : List ℕ) → BeginsWith t valu
 answer_found t value rest bytes (front, spelled, is) =
     let parts : bytes ≡ spelled.tag_field ++ (spelled.length_field ++ (value ++ rest)) =
     is ∙ ap (λ z. z ++ rest) spelled.joined ∙ simp append_assoc in
-    behind_length t (length value) spelled.tag_field spelled.length_field
+    past_length t (length value) spelled.tag_field spelled.length_field
     (spelled.length_field ++ (value ++ rest)) (value ++ rest) bytes
     (spelled.is_tag, parts) (spelled.is_length, refl)
     ∙ whole_value (length bytes) t value rest
@@ -140,16 +140,16 @@ unfolding answer
 answer_refused (Short n) bytes (is, inl h) =
     ap (tag_answer (length bytes)) (cut_tag bytes h) ∙ ap (λ end. Err (Short end)) (sym is)
 answer_refused (Short n) bytes (is, inr (inl (t, field, rest, after, h))) =
-    behind_tag t field rest bytes after
+    past_tag t field rest bytes after
     ∙ ap (length_answer (length bytes) t (length field)) (cut_length rest h)
     ∙ ap (λ end. Err (Short end)) (sym is)
 answer_refused (Short n) bytes (is, inr (inr (t, size, field, size_field, rest, value, after, after_size, h))) =
-    behind_length t size field size_field rest value bytes after after_size
+    past_length t size field size_field rest value bytes after after_size
     ∙ few_value (length bytes) t size value h
     ∙ ap (λ end. Err (Short end)) (sym is)
 answer_refused (Tag n) bytes h = ap (tag_answer (length bytes)) (bad_tag n bytes h)
 answer_refused (Length n) bytes (t, field, rest, after, is, h) =
-    behind_tag t field rest bytes after
+    past_tag t field rest bytes after
     ∙ ap (length_answer (length bytes) t (length field)) (bad_length rest h)
     ∙ ap (λ at. Err (Length at)) (sym is)
 

@@ -16,9 +16,9 @@ use Rattle.policy_machine.proofs.Passing.{admitted_selected, channel_is_low, cla
 use Rattle.policy_machine.proofs.SecureChannelSet.{within}
 use Rattle.policy_machine.proofs.SetChannel.{set_same}
 use Rattle.scp03_card.specs.Session.{Session}
-use Rattle.scp03_host.specs.Wrapped.{having_sent, wrapped}
+use Rattle.scp03_host.specs.Wrapped.{having_sent, wrapped_command}
 use Rattle.scp03_host.proofs.AgreementLemmas.{accepting_is, opens_sent}
-use Rattle.script_tool.specs.Command.{spelled}
+use Rattle.script_tool.specs.Command.{command_bytes}
 use Rattle.cap_pack.proofs.Octets.{HasByteHeader, sent_is_short}
 
 -- a class byte of secure messaging names its channel
@@ -47,7 +47,7 @@ pub record HasOpen (state : State) (channel : ℕ) (session : Session) : Type 0 
 
 module _ (state : State) (channel : ℕ) (session : Session) (has : HasOpen state channel session) (command : Apdu) (sendable : IsSendable command) where
   abbrev pub sent : Apdu
-  sent = wrapped session command channel
+  sent = wrapped_command session command channel
 
   abbrev pub taken : Admitted
   taken = admitted_as state sent (Some (having_sent session command)) command.body
@@ -61,10 +61,10 @@ module _ (state : State) (channel : ℕ) (session : Session) (has : HasOpen stat
   known : IsKnown sent.class sent.ins
   known = subst (λ (class : Option Class). MatchOption class ⊥ (λ c. Contains (instructions_of c) command.ins)) (sym (class_is channel has.low)) sendable.known
 
-  pub sent_admitted : Admits state (spelled sent) taken
+  pub sent_admitted : Admits state (command_bytes sent) taken
   sent_admitted =
-      subst (λ (s : Session). Admits state (spelled sent) (admitted_as state sent (Some s) command.body)) (accepting_is session command channel has.low sendable.bytes)
-      (admits state has.sound has.alive (spelled sent) sent session command.body
+      subst (λ (s : Session). Admits state (command_bytes sent) (admitted_as state sent (Some s) command.body)) (accepting_is session command channel has.low sendable.bytes)
+      (admits state has.sound has.alive (command_bytes sent) sent session command.body
       (sent_is_short session command channel has.low sendable.head sendable.bytes sendable.few) protected has.on
       (opens_sent session command channel has.low sendable.bytes) known)
 

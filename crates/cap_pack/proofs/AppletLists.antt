@@ -4,7 +4,7 @@ use Rattle.std.specs.Prelude.{slice_get}
 use Rattle.std.proofs.lemmas.List.{length-append}
 use Rattle.card_types.specs.Aid.{IsAid}
 use Rattle.tokens_receipts.specs.Receipt.{with_length}
-use Rattle.cap_pack.specs.Cap.{AreApplets, Lists}
+use Rattle.cap_pack.specs.Cap.{AreApplets, ListsApplets}
 use Rattle.cap_pack.proofs.Fronts.{get_after, same_fields, same_fronts}
 
 -- bytes begin with an applet
@@ -26,9 +26,9 @@ more_applets (a ∷ aids) aid rest next bytes (unread, left, is_aid, two, begins
     (unread, left, is_aid, two, begins, more_applets aids aid rest next left others more)
 
 -- what is left of a list after some applets of it
-pub rest_lists : (some all : List (List ℕ)) (rest bytes : List ℕ) → AreApplets some rest bytes → Lists all bytes → length some ≤ length all
-    → (later : List (List ℕ)) × (all ≡ some ++ later) × Lists later rest
-rest_lists [] all rest bytes is lists short = (all, refl, subst (Lists all) is lists)
+pub rest_lists : (some all : List (List ℕ)) (rest bytes : List ℕ) → AreApplets some rest bytes → ListsApplets all bytes → length some ≤ length all
+    → (later : List (List ℕ)) × (all ≡ some ++ later) × ListsApplets later rest
+rest_lists [] all rest bytes is lists short = (all, refl, subst (ListsApplets all) is lists)
 rest_lists (a ∷ some) [] rest bytes is lists short = absurd (omega arith)
 rest_lists (a ∷ some) (b ∷ all) rest bytes (u, r, ia, lu, isa, others) (last, (v, s, ib, lv, isb, more)) short =
     let one = one_applet a b r s bytes (u, ia, lu, isa) (v, ib, lv, isb) in
@@ -36,7 +36,7 @@ rest_lists (a ∷ some) (b ∷ all) rest bytes (u, r, ia, lu, isa, others) (last
     (left.0, λ i. sym one.0 i ∷ left.1 i, left.2)
 
 -- a list that is not at its end begins with an applet
-pub next_applet : (later : List (List ℕ)) (bytes : List ℕ) → 0 < length later → Lists later bytes
+pub next_applet : (later : List (List ℕ)) (bytes : List ℕ) → 0 < length later → ListsApplets later bytes
     → (aid : List ℕ) × (next : List ℕ) × BeginsApplet aid next bytes × (slice_get later 0 ≡ Some aid)
 next_applet [] bytes some lists = absurd (omega arith)
 next_applet (aid ∷ later) bytes some (last, (unread, next, is_aid, two, is, others)) = (aid, next, (unread, is_aid, two, is), refl)
@@ -58,7 +58,7 @@ one_passed count aid rest next bytes passed begins = record {
 }
 
 -- a list of more applets than were passed goes on with one
-pub not_over : (count : ℕ) (rest bytes : List ℕ) (all : List (List ℕ)) → Passed count rest bytes → Lists all bytes → count < length all
+pub not_over : (count : ℕ) (rest bytes : List ℕ) (all : List (List ℕ)) → Passed count rest bytes → ListsApplets all bytes → count < length all
     → (aid : List ℕ) × (next : List ℕ) × BeginsApplet aid next rest × (slice_get all count ≡ Some aid)
 not_over count rest bytes all passed lists more =
     let left = rest_lists passed.aids all rest bytes passed.are lists (omega (arith, passed.many)) in
@@ -67,7 +67,7 @@ not_over count rest bytes all passed lists more =
     (next.0, next.1, next.2, ap (λ (l : List (List ℕ)). slice_get l count) left.1 ∙ get_after passed.aids left.0 count passed.many ∙ next.3)
 
 -- the first applets of a list are one
-pub front_lists : (n : ℕ) (all : List (List ℕ)) (bytes : List ℕ) → n ≤ length all → Lists all bytes → (some : List (List ℕ)) × (length some ≡ n) × Lists some bytes
+pub front_lists : (n : ℕ) (all : List (List ℕ)) (bytes : List ℕ) → n ≤ length all → ListsApplets all bytes → (some : List (List ℕ)) × (length some ≡ n) × ListsApplets some bytes
 front_lists zero all bytes short lists = ([], refl, (bytes, refl))
 front_lists (suc n) [] bytes short lists = absurd (omega arith)
 front_lists (suc n) (aid ∷ all) bytes short (last, (unread, next, is_aid, two, is, others)) =
@@ -76,7 +76,7 @@ front_lists (suc n) (aid ∷ all) bytes short (last, (unread, next, is_aid, two,
 
 -- what is read after the applets that were passed
 pub applet_read : (count : ℕ) (aid rest next bytes : List ℕ) (all : List (List ℕ)) → Passed count rest bytes → BeginsApplet aid next rest
-    → Lists all bytes → count < length all → Some aid ≡ slice_get all count
+    → ListsApplets all bytes → count < length all → Some aid ≡ slice_get all count
 applet_read count aid rest next bytes all passed begins lists more =
     let there = not_over count rest bytes all passed lists more in
     let same = one_applet aid there.0 next there.1 rest begins there.2 in

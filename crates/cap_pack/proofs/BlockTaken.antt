@@ -25,14 +25,14 @@ use Rattle.policy_machine.proofs.Judging.{does_so, judged}
 use Rattle.policy_machine.proofs.LoadBlocksBrought.{one_brought}
 use Rattle.policy_machine.proofs.LoadOfChannel.{of_load}
 use Rattle.scp03_card.specs.Session.{Session}
-use Rattle.script_tool.specs.Load.{loading}
+use Rattle.script_tool.specs.Load.{block_command}
 use Rattle.sha2.specs.Sha256.{sha256}
 use Rattle.scp03_card.proofs.ListLemmas.{IsBytes-take}
 use Rattle.cap_pack.proofs.Admitting.{IsSendable, taken, taken_selected, taken_session}
 use Rattle.cap_pack.proofs.BlocksBrought.{Brings, all_come, brought}
 use Rattle.cap_pack.proofs.Coming.{Comes, GoesOnAs, coming, file_with}
 use Rattle.cap_pack.proofs.FilePut.{file_put}
-use Rattle.cap_pack.proofs.Octets.{bytes_behind}
+use Rattle.cap_pack.proofs.Octets.{following_bytes}
 use Rattle.cap_pack.proofs.Reaching.{Leads, leads_on, leads_there, open_after}
 
 -- what P1 says
@@ -66,7 +66,7 @@ module _ (state : State) (channel : ℕ) (session : Session) (file domain bytes 
   number = channel_of (0x84 + channel)
 
   abbrev command : Apdu
-  command = loading last blocks (take 239 rest)
+  command = block_command last blocks (take 239 rest)
 
   sendable : IsSendable command
   sendable = record {
@@ -181,7 +181,7 @@ module _ (state : State) (channel : ℕ) (session : Session) (file domain bytes 
       ahead = (refl, brings.joined);
       few = few;
       some = omega (arith, longer, length-drop 239 rest);
-      octets = bytes_behind 239 rest comes.octets;
+      octets = following_bytes 239 rest comes.octets;
     };
     leads = λ others rest. leads_on state channel session comes.has command sendable going judges (goes_on is) (file_with file domain bytes) refl refl others refl rest;
   }

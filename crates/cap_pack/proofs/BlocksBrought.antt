@@ -87,8 +87,8 @@ pub record AreLeft (left : ℕ) (rest : List ℕ) : Type 0 where
 pub left_of_all : (rest : List ℕ) → AreLeft (block_count 239 rest) rest
 left_of_all rest = record { few = omega arith; more = omega arith }
 
-pub left_behind : (left : ℕ) (rest : List ℕ) → AreLeft (suc (suc left)) rest → AreLeft (suc left) (drop 239 rest)
-left_behind left rest are = record { few = omega (arith, are.few, length-drop 239 rest); more = omega (arith, are.more, length-drop 239 rest) }
+pub left_after : (left : ℕ) (rest : List ℕ) → AreLeft (suc (suc left)) rest → AreLeft (suc left) (drop 239 rest)
+left_after left rest are = record { few = omega (arith, are.few, length-drop 239 rest); more = omega (arith, are.more, length-drop 239 rest) }
 
 -- the element of a file has few blocks
 pub few_blocks : (bytes : List ℕ) → 1 ≤ length bytes → length bytes ≤ 32_768 → (1 ≤ block_count 239 (block_element bytes)) × (block_count 239 (block_element bytes) ≤ 138)

@@ -5,7 +5,7 @@ use Rattle.policy_machine.specs.State.{State}
 use Rattle.scp03_card.specs.Session.{Session}
 use Rattle.script_tool.specs.Load.{load_blocks}
 use Rattle.cap_pack.proofs.BlockTaken.{ends_there, more_comes}
-use Rattle.cap_pack.proofs.BlocksBrought.{AreLeft, left_behind}
+use Rattle.cap_pack.proofs.BlocksBrought.{AreLeft, left_after}
 use Rattle.cap_pack.proofs.Coming.{Comes, file_with}
 use Rattle.cap_pack.proofs.Reaching.{Leads}
 
@@ -21,5 +21,5 @@ blocks_loaded channel file domain bytes (suc (suc left)) state session announced
     let longer : 239 < length rest = (let many = are.more in omega (arith, many)) in
     let goes = more_comes state channel session file domain bytes announced so_far rest blocks comes (suc left == 0) (λ is. absurd (let clash = more in cc)) more longer (omega (arith, few)) in
     goes.leads (load_blocks 239 (suc left) (blocks + 1) (drop 239 rest))
-    (blocks_loaded channel file domain bytes (suc left) goes.next _ (Some (length bytes)) (so_far ++ goes.piece) (drop 239 rest) (blocks + 1) goes.comes (left_behind left rest are)
+    (blocks_loaded channel file domain bytes (suc left) goes.next _ (Some (length bytes)) (so_far ++ goes.piece) (drop 239 rest) (blocks + 1) goes.comes (left_after left rest are)
     (omega (arith, few)))

@@ -6,7 +6,7 @@ use Rattle.card_types.specs.Aid.{IsAid}
 use Rattle.tokens_receipts.specs.Receipt.{with_length}
 use Rattle.script_tool.specs.Words.{Reads}
 use Rattle.cap_pack.specs.Cap.{HasHeader, IsHeader}
-use Rattle.cap_pack.specs.Components.{AreComponents, Component, IsComponent, spelled}
+use Rattle.cap_pack.specs.Components.{AreComponents, Component, IsComponent, component_bytes}
 use Rattle.cap_pack.specs.declared.component.TheConstants.{HEADER}
 use Rattle.cap_pack.proofs.ComponentLists.{first_is}
 use Rattle.cap_pack.proofs.Fronts.{same_fronts}
@@ -47,7 +47,7 @@ with_tag c others None tag reads = λ file has. reads file has.1
 with_tag c others (Some file) tag reads = (tag, reads)
 
 -- the first component tells the header
-pub header_first : (cs : List Component) (c : Component) (x bytes : List ℕ) (answer : Option (List ℕ)) → AreComponents cs bytes → IsComponent c → bytes ≡ spelled c ++ x
+pub header_first : (cs : List Component) (c : Component) (x bytes : List ℕ) (answer : Option (List ℕ)) → AreComponents cs bytes → IsComponent c → bytes ≡ component_bytes c ++ x
     → c.tag ≡ HEADER → Reads (λ file. IsHeader file c.content) answer → Reads (λ file. HasHeader file cs) answer
 header_first cs c x bytes answer are ic is tag reads =
     let first = first_is cs c x bytes are ic is in

@@ -9,7 +9,7 @@ use Rattle.hex.proofs.HexLemmas.{decode_of-ok, decode_of-same}
 use Rattle.script_tool.specs.Line.{IsBlank, IsComment}
 use Rattle.script_tool.specs.Words.{Reads, SpellsUpTo}
 use Rattle.line_runs.specs.Ends.{TakesLines}
-use Rattle.cap_pack.specs.Input.{JoinsLine, SpellLines, SpellsLine, joined, limited}
+use Rattle.cap_pack.specs.Input.{JoinsLine, SpellLines, SpellsLine, input_with, within_cap_limit}
 use Rattle.cap_pack.specs.declared.limit.TheConstants.{CAP_LIMIT}
 
 -- what is read of digits is all that a line spells, where it says something
@@ -22,14 +22,14 @@ line_read items line None short says reads = λ value spells. elim spells [
   | inr digits ↦ reads value (digits.0, digits.1, omega (arith, short, (decode_of-ok line (items value) digits.0).2))
 ]
 
-limits : (b : Bool) (xs ys : List ℕ) → leb (length xs) CAP_LIMIT ≡ b → joined (if b then Some xs else None) ys ≡ limited (xs ++ ys)
+limits : (b : Bool) (xs ys : List ℕ) → leb (length xs) CAP_LIMIT ≡ b → input_with (if b then Some xs else None) ys ≡ within_cap_limit (xs ++ ys)
 limits true xs ys few = refl
 limits false xs ys few =
     let more : leb (length (xs ++ ys)) CAP_LIMIT ≡ false = lt-leb (length (xs ++ ys)) CAP_LIMIT (omega (arith, leb-false (length xs) CAP_LIMIT few, length-append xs ys)) in
     ap (λ (b : Bool). if b then Some (xs ++ ys) else None) (sym more)
 
--- Bytes joined to those that came before. So after lines that spell some bytes what is kept is `limited` of these.
-pub joined_on : (xs ys : List ℕ) → joined (limited xs) ys ≡ limited (xs ++ ys)
+-- Bytes joined to those that came before. So after lines that spell some bytes what is kept is `within_cap_limit` of these.
+pub joined_on : (xs ys : List ℕ) → input_with (within_cap_limit xs) ys ≡ within_cap_limit (xs ++ ys)
 joined_on xs ys = limits (leb (length xs) CAP_LIMIT) xs ys refl
 
 -- one line more
@@ -70,14 +70,14 @@ one_input (line ∷ lines) a b (first, rest, said, others, is) (one, more, too, 
     is ∙ (λ i. one_line line first one said too i ++ one_input lines rest more others also i) ∙ sym other
 
 -- what lines that are joined leave, and that they write nothing
-pub lines_joined : (given : List (List ℕ)) (before : List ℕ) (last : Option (List ℕ)) (texts : List (List ℕ)) → TakesLines JoinsLine (limited before) given last texts
-    → (bytes : List ℕ) × SpellLines given bytes × (last ≡ limited (before ++ bytes)) × (concat texts ≡ [])
-lines_joined [] before last texts (same, none) = ([], refl, same ∙ ap limited (sym (append-nil before)), ap concat none)
+pub lines_joined : (given : List (List ℕ)) (before : List ℕ) (last : Option (List ℕ)) (texts : List (List ℕ)) → TakesLines JoinsLine (within_cap_limit before) given last texts
+    → (bytes : List ℕ) × SpellLines given bytes × (last ≡ within_cap_limit (before ++ bytes)) × (concat texts ≡ [])
+lines_joined [] before last texts (same, none) = ([], refl, same ∙ ap within_cap_limit (sym (append-nil before)), ap concat none)
 lines_joined (line ∷ given) before last texts (next, text, more, (first, spells, is, silent), later, are) =
-    let on : next ≡ limited (before ++ first) = is ∙ joined_on before first in
+    let on : next ≡ within_cap_limit (before ++ first) = is ∙ joined_on before first in
     let rest = lines_joined given (before ++ first) last more (subst (λ (at : Option (List ℕ)). TakesLines JoinsLine at given last more) on later) in (
       first ++ rest.0,
       (first, rest.0, spells, rest.1, refl),
-      rest.2 ∙ ap limited (append_assoc before first rest.0),
+      rest.2 ∙ ap within_cap_limit (append_assoc before first rest.0),
       ap concat are ∙ (λ i. silent i ++ rest.3 i),
     )

@@ -20,7 +20,7 @@ use Rattle.scp03_card.specs.Session.{Session}
 use Rattle.script_tool.specs.Load.{block_element, load_blocks}
 use Rattle.script_tool.specs.Loading.{block_count}
 use Rattle.cap_pack.specs.Pack.{load_commands}
-use Rattle.cap_pack.specs.Loads.{AlwaysLoadsWhole, IsLoaded, LoadsWhole, MayLoad, sent_in}
+use Rattle.cap_pack.specs.Loads.{AlwaysLoadsWhole, IsFileLoaded, LoadsWhole, MayLoad, sent_in}
 use Rattle.cap_pack.proofs.Admitting.{channel_is}
 use Rattle.cap_pack.proofs.BlocksBrought.{few_blocks, left_of_all}
 use Rattle.cap_pack.proofs.BlocksLoaded.{blocks_loaded}
@@ -102,5 +102,5 @@ pub always_loads_whole : AlwaysLoadsWhole
 always_loads_whole state channel session file bytes may outcomes last run =
     let there = loads_whole state channel session file bytes may in
     let same = one_run state (sent_in session channel (load_commands file bytes)) there.0 outcomes there.1 last there.2 run in
-    subst (IsLoaded state channel session file bytes outcomes) same.1
-    (subst (λ (os : List Outcome). IsLoaded state channel session file bytes os there.1) same.0 there.3)
+    subst (IsFileLoaded state channel session file bytes outcomes) same.1
+    (subst (λ (os : List Outcome). IsFileLoaded state channel session file bytes os there.1) same.0 there.3)

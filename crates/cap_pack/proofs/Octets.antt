@@ -19,9 +19,9 @@ use Rattle.scp03_card.specs.Session.{Session, c_mac, chain_of, with_message}
 use Rattle.scp03_card.proofs.Lengths.{length-c_mac}
 use Rattle.scp03_card.proofs.ListLemmas.{IsBytes-take}
 use Rattle.scp03_card.proofs.SessionLemmas.{chain_more}
-use Rattle.scp03_host.specs.Wrapped.{having_sent, message_of, next_icv, sent_field, wrapped}
+use Rattle.scp03_host.specs.Wrapped.{having_sent, message_of, next_icv, sent_field, wrapped_command}
 use Rattle.scp03_host.proofs.SentLemmas.{sent_clear, sent_sealed}
-use Rattle.script_tool.specs.Command.{spelled}
+use Rattle.script_tool.specs.Command.{command_bytes}
 use Rattle.sha2.specs.Sha256.{digest_bytes, sha256}
 
 pub no_bytes : IsBytes []
@@ -42,8 +42,8 @@ bytes_joined s t one other = record {
   ];
 }
 
-pub bytes_behind : (n : ℕ) (s : List ℕ) → IsBytes s → IsBytes (drop n s)
-bytes_behind n s are = record { at = λ i. rw (get_or-drop n s i 0) (are.at (n + i)) }
+pub following_bytes : (n : ℕ) (s : List ℕ) → IsBytes s → IsBytes (drop n s)
+following_bytes n s are = record { at = λ i. rw (get_or-drop n s i 0) (are.at (n + i)) }
 
 pub all_bytes : (s : List ℕ) → IsBytes s → All (λ b. b < 256) s
 all_bytes s are = All-from_get_or (λ b. b < 256) s 0 (λ i within. are.at i)
@@ -124,7 +124,7 @@ pub record HasByteHeader (command : Apdu) : Type 0 where
 module _ (session : Session) (command : Apdu) (channel : ℕ) (low : channel < 4) (head : HasByteHeader command) (bytes : IsBytes command.body)
     (few : length command.body ≤ 239) where
   abbrev sent : Apdu
-  sent = wrapped session command channel
+  sent = wrapped_command session command channel
 
   mac : List ℕ
   mac = c_mac (having_sent session command)
@@ -141,10 +141,10 @@ module _ (session : Session) (command : Apdu) (channel : ℕ) (low : channel < 4
         length-c_mac session (message_of session command),
       )
 
-  pub sent_is_short : Short sent (spelled sent)
+  pub sent_is_short : Short sent (command_bytes sent)
   sent_is_short = record {
     spelling = refl;
-    octets = all_bytes (spelled sent)
+    octets = all_bytes (command_bytes sent)
         (bytes_more sent.class (sent.ins ∷ sent.p1 ∷ sent.p2 ∷ after_header sent.body None) (omega (arith, low))
         (bytes_more sent.ins (sent.p1 ∷ sent.p2 ∷ after_header sent.body None) head.ins
         (bytes_more sent.p1 (sent.p2 ∷ after_header sent.body None) head.p1

@@ -4,10 +4,10 @@ use Rattle.std.specs.Prelude.{IfErr, IfOk, IsOkAnd, ◌↔◌}
 use Rattle.std.proofs.lemmas.List.{append-nil, append_cancel_left, length-append}
 use Rattle.std.proofs.lemmas.List.Sums.{sum_by-append, sum_by-cons}
 use Rattle.tokens_receipts.specs.Receipt.{with_length}
-use Rattle.cap_pack.specs.Cap.{AreWhole, CapOf, HasApplets, HasHeader, IsHeader, Lists, ListsCounted, NoneRepeats}
-use Rattle.cap_pack.specs.Components.{AreComponents, BeginNone, Component, Stands, count_of, size_of}
+use Rattle.cap_pack.specs.Cap.{AreWhole, CapOf, HasApplets, HasHeader, IsHeader, ListsApplets, ListsCounted, NoneRepeats}
+use Rattle.cap_pack.specs.Components.{AreComponents, BeginNone, Component, Stands, components_size, count_of}
 use Rattle.cap_pack.specs.Held.{IsCap}
-use Rattle.cap_pack.specs.Stops.{BreakAt, HasSomeHeader, ListsNoneAt, RepeatsAt, Stops}
+use Rattle.cap_pack.specs.Stops.{BreakAt, HasSomeHeader, ListsNoneAt, RepeatsAt, StopsPacking}
 use Rattle.cap_pack.specs.declared.cap.Cap.{Cap}
 use Rattle.cap_pack.specs.declared.component.TheConstants.{APPLETS, HEADER}
 use Rattle.cap_pack.specs.declared.stop.CapStop.{CapStop}
@@ -25,7 +25,7 @@ one_list bytes cs ds are other = (same_components cs ds [] [] bytes are other (i
 
 one_break : (bytes : List ℕ) (n m : ℕ) → BreakAt n bytes → BreakAt m bytes → n ≡ m
 one_break bytes n m (cs, x, begun, none, at) (ds, y, other, over, there) =
-    at ∙ ap size_of (same_components cs ds x y bytes begun other (inr none) (inr over)).0 ∙ sym there
+    at ∙ ap components_size (same_components cs ds x y bytes begun other (inr none) (inr over)).0 ∙ sym there
 
 no_break : (bytes : List ℕ) (n : ℕ) (cs : List Component) → BreakAt n bytes → AreComponents cs bytes → ⊥
 no_break bytes n cs (ds, x, begun, none, at) are = subst BeginNone (same_components ds cs x [] bytes begun are (inr none) (inl refl)).1 none
@@ -78,7 +78,7 @@ no_repeat n cs (c, stands, before, again) none = again (none_front stands.before
 
 one_repeat : (n m : ℕ) (cs : List Component) → RepeatsAt n cs → RepeatsAt m cs → n ≡ m
 one_repeat n m cs (c, a, before, again) (d, b, front, more) = elim (meet a.before b.before a.after b.after c d (sym a.is ∙ b.is)) [
-  | inl same ↦ a.place ∙ ap size_of same.0 ∙ sym b.place
+  | inl same ↦ a.place ∙ ap components_size same.0 ∙ sym b.place
   | inr (inl first) ↦ absurd (again (none_front a.before c first.0 (subst NoneRepeats first.1 front)))
   | inr (inr second) ↦ absurd (more (none_front b.before d second.0 (subst NoneRepeats second.1 before)))
 ]
@@ -93,7 +93,7 @@ two_stand tag n m c d cs a b mid is ct dt =
 
 one_stands : (n m : ℕ) (c d : Component) (cs : List Component) → NoneRepeats cs → Stands n c cs → Stands m d cs → c.tag ≡ APPLETS → d.tag ≡ APPLETS → (n ≡ m) × (c ≡ d)
 one_stands n m c d cs none a b ct dt = elim (meet a.before b.before a.after b.after c d (sym a.is ∙ b.is)) [
-  | inl same ↦ (a.place ∙ ap size_of same.0 ∙ sym b.place, same.1)
+  | inl same ↦ (a.place ∙ ap components_size same.0 ∙ sym b.place, same.1)
   | inr (inl first) ↦ absurd (omega (arith, none.applets, two_stand APPLETS n m c d cs a b first.0 first.1 ct dt))
   | inr (inr second) ↦ absurd (omega (arith, none.applets, two_stand APPLETS m n d c cs b a second.0 second.1 dt ct))
 ]
@@ -104,7 +104,7 @@ nothing : {A : Type 0} (xs : List A) → length xs ≡ 0 → xs ≡ []
 nothing [] none = refl
 nothing (x ∷ xs) none = absurd (omega (arith, none))
 
-one_names : (ms ns : List (List ℕ)) (bytes : List ℕ) → length ms ≡ length ns → Lists ms bytes → Lists ns bytes → ms ≡ ns
+one_names : (ms ns : List (List ℕ)) (bytes : List ℕ) → length ms ≡ length ns → ListsApplets ms bytes → ListsApplets ns bytes → ms ≡ ns
 one_names ms ns bytes len (rest, are) other =
     let left = rest_lists ms ns rest bytes are other (omega (arith, len)) in
     let none : left.0 ≡ [] = nothing left.0 (omega (arith, len, ap length left.1, length-append ms left.0)) in
@@ -134,7 +134,7 @@ one_lack n m cs none (c, a, ct, lacks) (d, b, dt, other) = (one_stands n m c d c
 -- ---- stops
 
 -- bytes have one stop
-pub one_stop : (bytes : List ℕ) (a b : CapStop) → Stops bytes a → Stops bytes b → a ≡ b
+pub one_stop : (bytes : List ℕ) (a b : CapStop) → StopsPacking bytes a → StopsPacking bytes b → a ≡ b
 one_stop bytes Large Large large other = refl
 one_stop bytes Large (Broken n) large stops = absurd (omega (arith, large, stops.0))
 one_stop bytes Large Header large stops = absurd (omega (arith, large, stops.0))
@@ -178,7 +178,7 @@ one_stop bytes (Applets n) (Applets m) stops other =
     ap (λ (k : ℕ). Applets k) (one_lack n m both.0 both.1.1 both.1.2 both.2.2)
 
 -- a CAP file has no stop
-no_stop : (bytes file : List ℕ) (aids : List (List ℕ)) (stop : CapStop) → CapOf bytes file aids → Stops bytes stop → ⊥
+no_stop : (bytes file : List ℕ) (aids : List (List ℕ)) (stop : CapStop) → CapOf bytes file aids → StopsPacking bytes stop → ⊥
 no_stop bytes file aids Large cap stops = omega (arith, cap.0, stops)
 no_stop bytes file aids (Broken n) cap stops = no_break bytes n cap.1.0 stops.1 cap.1.1
 no_stop bytes file aids Header cap stops =
@@ -200,7 +200,7 @@ one_cap bytes f g ms ns cap other =
 -- ---- answers
 
 pub only_answer : (bytes : List ℕ) (answer : Result Cap CapStop) → IfOk answer (λ cap. cap.bytes.now ≡ bytes)
-    → IfOk answer (λ cap. (aids : List (List ℕ)) × IsCap cap aids) → IfErr answer (Stops bytes)
+    → IfOk answer (λ cap. (aids : List (List ℕ)) × IsCap cap aids) → IfErr answer (StopsPacking bytes)
     → (file : List ℕ) (aids : List (List ℕ)) → CapOf bytes file aids → IsOkAnd answer (λ cap. (cap.package ≡ file) × IsCap cap aids)
 only_answer bytes (Ok cap) same found stops file aids is =
     let one = one_cap bytes cap.package file found.0 aids (subst (λ (b : List ℕ). CapOf b cap.package found.0) same found.1.is) is in
@@ -208,13 +208,13 @@ only_answer bytes (Ok cap) same found stops file aids is =
 only_answer bytes (Err stop) same found stops file aids is = no_stop bytes file aids stop is stops
 
 pub only_stop : (bytes : List ℕ) (answer : Result Cap CapStop) → IfOk answer (λ cap. cap.bytes.now ≡ bytes)
-    → IfOk answer (λ cap. (aids : List (List ℕ)) × IsCap cap aids) → IfErr answer (Stops bytes)
-    → (stop : CapStop) → (answer ≡ Err stop) ↔ Stops bytes stop
+    → IfOk answer (λ cap. (aids : List (List ℕ)) × IsCap cap aids) → IfErr answer (StopsPacking bytes)
+    → (stop : CapStop) → (answer ≡ Err stop) ↔ StopsPacking bytes stop
 only_stop bytes (Ok cap) same found stops stop = (
   λ wrong. absurd (cc wrong),
   λ other. absurd (no_stop bytes cap.package found.0 stop (subst (λ (b : List ℕ). CapOf b cap.package found.0) same found.1.is) other),
 )
 only_stop bytes (Err one) same found stops stop = (
-  λ is. (let same : one ≡ stop = cc is in subst (Stops bytes) same stops),
+  λ is. (let same : one ≡ stop = cc is in subst (StopsPacking bytes) same stops),
   λ other. ap (λ (s : CapStop). Err s) (one_stop bytes one stop stops other),
 )

@@ -7,7 +7,7 @@ use Rattle.std.specs.List.{flat_map}
 use Rattle.std.proofs.lemmas.List.{length-append}
 use Rattle.std.proofs.lemmas.List.Sums.{sum_by-append, sum_by-cons}
 use Rattle.cap_pack.specs.Cap.{NoneRepeats}
-use Rattle.cap_pack.specs.Components.{BeginWith, Component, IsComponent, Stands, count_of, size_of, spelled}
+use Rattle.cap_pack.specs.Components.{BeginWith, Component, IsComponent, Stands, component_bytes, components_size, count_of}
 use Rattle.cap_pack.specs.Outlines.{Outlines, applet_component, repeats}
 use Rattle.cap_pack.specs.Stops.{RepeatsAt}
 use Rattle.cap_pack.proofs.ComponentLists.{more_component}
@@ -50,7 +50,7 @@ stands_on n c cs d stands = record {
   place = stands.place;
 }
 
-abbrev stands_last : (n : ℕ) (c : Component) (cs : List Component) → n ≡ size_of cs → Stands n c (cs ++ c ∷ [])
+abbrev stands_last : (n : ℕ) (c : Component) (cs : List Component) → n ≡ components_size cs → Stands n c (cs ++ c ∷ [])
 stands_last n c cs place = record { before = cs; after = []; is = refl; place = place }
 
 repeats_on : (n : ℕ) (cs : List Component) (d : Component) → RepeatsAt n cs → RepeatsAt n (cs ++ d ∷ [])
@@ -102,13 +102,13 @@ repeated cs c o outlines told none = elim (two_tags o c.tag told) [
       omega (arith, some, none.applets, count_yes APPLETS cs c is)
 ]
 
-twice_or : (cs : List Component) (c : Component) (o : Option ℕ) (place : ℕ) → TwiceIn cs o → (NoneRepeats (cs ++ c ∷ []) → ⊥) → place ≡ size_of cs
+twice_or : (cs : List Component) (c : Component) (o : Option ℕ) (place : ℕ) → TwiceIn cs o → (NoneRepeats (cs ++ c ∷ []) → ⊥) → place ≡ components_size cs
     → TwiceIn (cs ++ c ∷ []) (option_or o (Some place))
 twice_or cs c None place none again at = (c, stands_last place c cs at, none, again)
 twice_or cs c (Some n) place twice again at = repeats_on n cs c twice
 
 -- a component that repeats one
-pub repeats_one : (cs : List Component) (c : Component) (o : Outline) (place : ℕ) → Outlines cs o → repeats o c.tag ≡ true → place ≡ size_of cs
+pub repeats_one : (cs : List Component) (c : Component) (o : Outline) (place : ℕ) → Outlines cs o → repeats o c.tag ≡ true → place ≡ components_size cs
     → Outlines (cs ++ c ∷ []) (record { header = o.header; applets = o.applets; twice = option_or o.twice (Some place) })
 repeats_one cs c o place outlines told at = record {
   header = (
@@ -145,7 +145,7 @@ header_one cs c o outlines told is =
 
 -- the first applet component
 pub applets_one : (cs : List Component) (c : Component) (o : Outline) (held : AppletComponent) → Outlines cs o → repeats o c.tag ≡ false → c.tag ≡ APPLETS
-    → held.place ≡ size_of cs → held.content.now ≡ c.content → Outlines (cs ++ c ∷ []) (record { header = o.header; applets = Some held; twice = o.twice })
+    → held.place ≡ components_size cs → held.content.now ≡ c.content → Outlines (cs ++ c ∷ []) (record { header = o.header; applets = Some held; twice = o.twice })
 applets_one cs c o held outlines told is at content =
     let other : c.tag ≢ HEADER = not_both APPLETS HEADER (λ wrong. omega (arith, wrong)) c.tag is in
     let same : applet_component held ≡ c = λ i. record { tag = sym is i; content = content i } in record {
@@ -180,11 +180,11 @@ pub record Walked (bytes rest : List ℕ) (outline : Outline) : Type 0 where
   pub begun : BeginWith before rest bytes
   pub outlines : Outlines before outline
 
-walked_place : (bytes rest : List ℕ) (outline : Outline) (walked : Walked bytes rest outline) → length bytes - length rest ≡ size_of walked.before
-walked_place bytes rest outline walked = omega (arith, ap length walked.begun.is, length-append (flat_map spelled walked.before) rest)
+walked_place : (bytes rest : List ℕ) (outline : Outline) (walked : Walked bytes rest outline) → length bytes - length rest ≡ components_size walked.before
+walked_place bytes rest outline walked = omega (arith, ap length walked.begun.is, length-append (flat_map component_bytes walked.before) rest)
 
-pub walk_on : (bytes rest next : List ℕ) (c : Component) (o p : Outline) (place : ℕ) → Walked bytes rest o → place ≡ length bytes - length rest → IsComponent c → rest ≡ spelled c ++ next
-    → ((before : List Component) → Outlines before o → place ≡ size_of before → Outlines (before ++ c ∷ []) p) → Walked bytes next p
+pub walk_on : (bytes rest next : List ℕ) (c : Component) (o p : Outline) (place : ℕ) → Walked bytes rest o → place ≡ length bytes - length rest → IsComponent c → rest ≡ component_bytes c ++ next
+    → ((before : List Component) → Outlines before o → place ≡ components_size before → Outlines (before ++ c ∷ []) p) → Walked bytes next p
 walk_on bytes rest next c o p place walked at ic is met = record {
   before = walked.before ++ c ∷ [];
   begun = more_component walked.before c rest next bytes walked.begun ic is;

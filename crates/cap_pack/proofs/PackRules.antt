@@ -6,7 +6,7 @@ use Rattle.std.proofs.lemmas.List.{drop-drop, length-map}
 use Rattle.std.proofs.lemmas.Option.{slice_get-get_or, slice_get-map}
 use Rattle.apdu_core.specs.Apdu.{Apdu}
 use Rattle.card_types.specs.Aid.{IsAid}
-use Rattle.script_tool.specs.Load.{block_element, load_blocks, loading}
+use Rattle.script_tool.specs.Load.{block_command, block_element, load_blocks}
 use Rattle.script_tool.specs.Loading.{block_count}
 use Rattle.script_tool.specs.Tokens.{install_command}
 use Rattle.script_lines.specs.declared.tokens.Tokens.TheVariants.{Absent}
@@ -21,19 +21,19 @@ load_count size zero number bytes = refl
 load_count size (suc left) number bytes = ap (λ (n : ℕ). suc n) (load_count size left (number + 1) (drop size bytes))
 
 load_at : (size left number : ℕ) (bytes : List ℕ) (k : ℕ) → k < left
-    → slice_get (load_blocks size left number bytes) k ≡ Some (loading (eqb (left - (k + 1)) 0) (number + k) (take size (drop (k * size) bytes)))
+    → slice_get (load_blocks size left number bytes) k ≡ Some (block_command (eqb (left - (k + 1)) 0) (number + k) (take size (drop (k * size) bytes)))
 load_at size zero number bytes k within = absurd (omega arith)
 load_at size (suc left) number bytes zero within =
     let all : left ≡ suc left - 1 = omega arith in
     let none : number ≡ number + 0 = omega arith in
     let start : 0 ≡ 0 * size = omega arith in
-    λ i. Some (loading (eqb (all i) 0) (none i) (take size (drop (start i) bytes)))
+    λ i. Some (block_command (eqb (all i) 0) (none i) (take size (drop (start i) bytes)))
 load_at size (suc left) number bytes (suc k) within =
     let fewer : left - (k + 1) ≡ suc left - (suc k + 1) = omega arith in
     let later : number + 1 + k ≡ number + suc k = omega arith in
     let place : size + k * size ≡ suc k * size = omega arith in
     let rest : drop (k * size) (drop size bytes) ≡ drop (suc k * size) bytes = drop-drop (k * size) size bytes ∙ ap (λ (n : ℕ). drop n bytes) place in
-    load_at size left (number + 1) (drop size bytes) k (omega arith) ∙ (λ i. Some (loading (eqb (fewer i) 0) (later i) (take size (rest i))))
+    load_at size left (number + 1) (drop size bytes) k (omega arith) ∙ (λ i. Some (block_command (eqb (fewer i) 0) (later i) (take size (rest i))))
 
 -- ---- the commands
 
@@ -58,7 +58,7 @@ block_of file bytes aids k within =
     let zero' : 0 + k ≡ k = omega arith in
     get_front (blocks_in bytes) (map (installing_applet file) aids) k (omega (arith, count))
     ∙ load_at block_size (count_in bytes) 0 (block_element bytes) k within
-    ∙ (λ i. Some (loading (eqb (count_in bytes - (k + 1)) 0) (zero' i) (take block_size (drop (k * block_size) (block_element bytes)))))
+    ∙ (λ i. Some (block_command (eqb (count_in bytes - (k + 1)) 0) (zero' i) (take block_size (drop (k * block_size) (block_element bytes)))))
 
 applet_of : (file bytes : List ℕ) (aids : List (List ℕ)) (k : ℕ) (aid : List ℕ) → count_in bytes ≤ k → Some aid ≡ slice_get aids (k - count_in bytes)
     → slice_get (pack file bytes aids) (suc k) ≡ Some (installing_applet file aid)

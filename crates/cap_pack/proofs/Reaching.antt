@@ -12,12 +12,12 @@ use Rattle.policy_machine.specs.Commands.{HasEffect, Judges}
 use Rattle.policy_machine.specs.Run.{Run}
 use Rattle.policy_machine.specs.Select.{is_card_locked}
 use Rattle.policy_machine.specs.State.{Effect, State, session_on}
-use Rattle.policy_machine.specs.Step.{Outcome, Step, accepted}
+use Rattle.policy_machine.specs.Step.{Outcome, Step, outcome_of_effect}
 use Rattle.policy_machine.proofs.KeepsSound.{steps_keep_sound}
-use Rattle.scp03_card.specs.Protected.{protected}
+use Rattle.scp03_card.specs.Protected.{session_reply}
 use Rattle.scp03_card.specs.Session.{Session}
-use Rattle.scp03_host.specs.Wrapped.{having_sent, wrapped}
-use Rattle.script_tool.specs.Command.{spelled}
+use Rattle.scp03_host.specs.Wrapped.{having_sent, wrapped_command}
+use Rattle.script_tool.specs.Command.{command_bytes}
 use Rattle.cap_pack.specs.Loads.{AreAccepted, sent_in}
 use Rattle.cap_pack.proofs.Admitting.{HasOpen, IsSendable, sent_admitted, taken}
 
@@ -39,9 +39,9 @@ module _ (state : State) (channel : ℕ) (session : Session) (has : HasOpen stat
     (done : Effect) (judges : Judges (taken state channel session has command sendable) None)
     (does : HasEffect (taken state channel session has command sendable) done) where
   abbrev after : Outcome
-  after = accepted (taken state channel session has command sendable) done
+  after = outcome_of_effect (taken state channel session has command sendable) done
 
-  step : Step state (spelled (wrapped session command channel)) after
+  step : Step state (command_bytes (wrapped_command session command channel)) after
   step = inr (inr (record {
     admitted = taken state channel session has command sendable;
     done = done;
@@ -55,15 +55,15 @@ module _ (state : State) (channel : ℕ) (session : Session) (has : HasOpen stat
   pub open_after : session_on done.state.volatile (channel_of (0x84 + channel)) ≡ Some (having_sent session command) → done.state.registry ≡ state.registry
       → HasOpen done.state channel (having_sent session command)
   open_after on same = record {
-    sound = steps_keep_sound state (spelled (wrapped session command channel)) after has.sound step;
+    sound = steps_keep_sound state (command_bytes (wrapped_command session command channel)) after has.sound step;
     alive = subst (λ (r : Registry). r.life ≢ Terminated) (sym same) has.alive;
     low = has.low;
     on = on;
   }
 
   module _ (file : LoadFile) (body : done.body ≡ 0x00 ∷ []) (status : done.status ≡ 0x9000) where
-    reply : after.reply ≡ protected (having_sent session command) (0x00 ∷ []) 0x9000
-    reply = (λ i. protected (having_sent session command) (body i) (status i))
+    reply : after.reply ≡ session_reply (having_sent session command) (0x00 ∷ []) 0x9000
+    reply = (λ i. session_reply (having_sent session command) (body i) (status i))
 
     -- the others go on from the state after the command
     pub leads_on : (others : List Apdu) → done.state.registry ≡ state.registry → Leads channel file done.state (having_sent session command) others

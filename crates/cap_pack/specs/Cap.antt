@@ -31,13 +31,13 @@ AreApplets (aid ∷ aids) rest bytes =
     (unread : List ℕ) × (next : List ℕ) × IsAid aid × (length unread ≡ 2) × (bytes ≡ with_length aid ++ unread ++ next) × AreApplets aids rest next
 
 -- a list of applets with these AIDs; what follows them is not read
-abbrev pub Lists : (aids : List (List ℕ)) → List ℕ → Type 0
-Lists aids bytes = (rest : List ℕ) × AreApplets aids rest bytes
+abbrev pub ListsApplets : (aids : List (List ℕ)) → List ℕ → Type 0
+ListsApplets aids bytes = (rest : List ℕ) × AreApplets aids rest bytes
 
 -- the content of an applet component: how many applets there are, and their list
 abbrev pub ListsCounted : (aids : List (List ℕ)) → List ℕ → Type 0
 ListsCounted aids [] = ⊥
-ListsCounted aids (count ∷ bytes) = (count ≡ length aids) × Lists aids bytes
+ListsCounted aids (count ∷ bytes) = (count ≡ length aids) × ListsApplets aids bytes
 
 -- the applets of the applet component, or none where there is none
 abbrev pub HasApplets : (aids : List (List ℕ)) → List Component → Type 0

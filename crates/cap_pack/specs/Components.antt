@@ -13,38 +13,38 @@ pub record IsComponent (component : Component) : Type 0 where
   pub size : length component.content < 2 ^ 16
 
 -- tag, size in two bytes, and the bytes
-abbrev pub spelled : Component → List ℕ
-spelled component = component.tag ∷ to_be_bytes w16 (length component.content) ++ component.content
+abbrev pub component_bytes : Component → List ℕ
+component_bytes component = component.tag ∷ to_be_bytes w16 (length component.content) ++ component.content
 
 -- the bytes are these components, one after the other, and then the rest
 pub record BeginWith (components : List Component) (rest bytes : List ℕ) : Type 0 where
   pub each : All IsComponent components
-  pub is : bytes ≡ flat_map spelled components ++ rest
+  pub is : bytes ≡ flat_map component_bytes components ++ rest
 
 -- the bytes are these components, one after the other
 abbrev pub AreComponents : List Component → List ℕ → Type 0
 AreComponents components bytes = BeginWith components [] bytes
 
 -- the bytes after a tag end before the component does
-abbrev pub IsCut : List ℕ → Type 0
-IsCut (high ∷ low ∷ content) = length content < 256 * high + low
-IsCut bytes = Unit {0}
+abbrev pub IsComponentCut : List ℕ → Type 0
+IsComponentCut (high ∷ low ∷ content) = length content < 256 * high + low
+IsComponentCut bytes = Unit {0}
 
 -- there are bytes, and they begin no component: its tag is 00, or the end cuts it
 abbrev pub BeginNone : List ℕ → Type 0
 BeginNone [] = ⊥
-BeginNone (tag ∷ bytes) = (tag ≡ 0) ⊎ IsCut bytes
+BeginNone (tag ∷ bytes) = (tag ≡ 0) ⊎ IsComponentCut bytes
 
 -- how many bytes components have, and so where the next one begins
-abbrev pub size_of : List Component → ℕ
-size_of components = length (flat_map spelled components)
+abbrev pub components_size : List Component → ℕ
+components_size components = length (flat_map component_bytes components)
 
 -- a component begins at byte n
 pub record Stands (n : ℕ) (component : Component) (components : List Component) : Type 0 where
   pub before : List Component
   pub after : List Component
   pub is : components ≡ before ++ component ∷ after
-  pub place : n ≡ size_of before
+  pub place : n ≡ components_size before
 
 -- how many components have a tag
 abbrev pub count_of : ℕ → List Component → ℕ

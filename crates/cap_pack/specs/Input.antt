@@ -10,13 +10,13 @@ abbrev pub SpellsLine : (line bytes : List ℕ) → Type 0
 SpellsLine line bytes = ((IsBlank line ⊎ IsComment line) × (bytes ≡ [])) ⊎ ((decode_of line ≡ Ok bytes) × (1 ≤ length bytes))
 
 -- bytes, or none where they are more than a CAP file can have
-abbrev pub limited : List ℕ → Option (List ℕ)
-limited bytes = if nat_le (length bytes) CAP_LIMIT then Some bytes else None
+abbrev pub within_cap_limit : List ℕ → Option (List ℕ)
+within_cap_limit bytes = if nat_le (length bytes) CAP_LIMIT then Some bytes else None
 
 -- what is kept of an input once further bytes were joined to it
-abbrev pub joined : Option (List ℕ) → List ℕ → Option (List ℕ)
-joined None bytes = None
-joined (Some before) bytes = limited (before ++ bytes)
+abbrev pub input_with : Option (List ℕ) → List ℕ → Option (List ℕ)
+input_with None bytes = None
+input_with (Some before) bytes = within_cap_limit (before ++ bytes)
 
 -- the bytes that lines spell, one line after the other
 abbrev pub SpellLines : (lines : List (List ℕ)) (bytes : List ℕ) → Type 0
@@ -26,7 +26,7 @@ SpellLines (line ∷ lines) bytes =
 
 -- what a line does to the bytes that are kept: its own are joined to them, and nothing is written
 abbrev pub JoinsLine : Option (List ℕ) → List ℕ → Option (List ℕ) → List ℕ → Type 0
-JoinsLine before line after said = (bytes : List ℕ) × SpellsLine line bytes × (after ≡ joined before bytes) × (said ≡ [])
+JoinsLine before line after said = (bytes : List ℕ) × SpellsLine line bytes × (after ≡ input_with before bytes) × (said ≡ [])
 
 -- what joins the lines: it never fails
 abbrev pub joining : Taker (Option (List ℕ))

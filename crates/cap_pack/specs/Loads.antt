@@ -17,24 +17,24 @@ use Rattle.policy_machine.specs.Run as run
 use Rattle.policy_machine.specs.Sound.{IsSound}
 use Rattle.policy_machine.specs.State.{State, selected_on, session_on}
 use Rattle.policy_machine.specs.Step.{Outcome}
-use Rattle.scp03_card.specs.Protected.{protected}
+use Rattle.scp03_card.specs.Protected.{session_reply}
 use Rattle.scp03_card.specs.Session.{Session}
-use Rattle.scp03_host.specs.Wrapped.{having_sent, wrapped}
-use Rattle.script_tool.specs.Command.{spelled}
+use Rattle.scp03_host.specs.Wrapped.{having_sent, wrapped_command}
+use Rattle.script_tool.specs.Command.{command_bytes}
 use Rattle.cap_pack.specs.Pack.{load_commands}
 
 -- commands that a host sends on a channel, each in the session that the ones before have left
 abbrev pub sent_in : Session → ℕ → List Apdu → List Input
 sent_in session channel [] = []
 sent_in session channel (command ∷ commands) =
-    run.Command (spelled (wrapped session command channel)) ∷ sent_in (having_sent session command) channel commands
+    run.Command (command_bytes (wrapped_command session command channel)) ∷ sent_in (having_sent session command) channel commands
 
 -- each is accepted, and the reply is 00 with 9000, protected by the session that has the command
 abbrev pub AreAccepted : Session → List Apdu → List Outcome → Type 0
 AreAccepted session [] [] = Unit {0}
 AreAccepted session (command ∷ commands) (outcome ∷ outcomes) =
     (outcome.rule ≡ None)
-    × (outcome.reply ≡ protected (having_sent session command) (0x00 ∷ []) 0x9000)
+    × (outcome.reply ≡ session_reply (having_sent session command) (0x00 ∷ []) 0x9000)
     × AreAccepted (having_sent session command) commands outcomes
 AreAccepted session commands outcomes = ⊥
 
@@ -72,7 +72,7 @@ abbrev pub loaded_file : State → ℕ → (file bytes : List ℕ) → LoadFile
 loaded_file state channel file bytes = record { aid = file; domain = selected_on state.volatile channel; bytes = bytes }
 
 -- each command was accepted, and the registry has the file besides, with exactly these bytes
-pub record IsLoaded (state : State) (channel : ℕ) (session : Session) (file bytes : List ℕ) (outcomes : List Outcome) (last : State) : Type 0 where
+pub record IsFileLoaded (state : State) (channel : ℕ) (session : Session) (file bytes : List ℕ) (outcomes : List Outcome) (last : State) : Type 0 where
   pub accepted : AreAccepted session (load_commands file bytes) outcomes
   pub added : IsFileAdded (loaded_file state channel file bytes) state.registry last.registry
 
@@ -84,10 +84,10 @@ LoadRun state channel session file bytes = Run state (sent_in session channel (l
 abbrev pub LoadsWhole : Type 0
 LoadsWhole =
     (state : State) (channel : ℕ) (session : Session) (file bytes : List ℕ) → MayLoad state channel session file bytes
-    → (outcomes : List Outcome) × (last : State) × LoadRun state channel session file bytes outcomes last × IsLoaded state channel session file bytes outcomes last
+    → (outcomes : List Outcome) × (last : State) × LoadRun state channel session file bytes outcomes last × IsFileLoaded state channel session file bytes outcomes last
 
 -- Each run that these commands have loads the file whole, since from one state the same inputs have at most one run.
 abbrev pub AlwaysLoadsWhole : Type 0
 AlwaysLoadsWhole =
     (state : State) (channel : ℕ) (session : Session) (file bytes : List ℕ) → MayLoad state channel session file bytes
-    → (outcomes : List Outcome) (last : State) → LoadRun state channel session file bytes outcomes last → IsLoaded state channel session file bytes outcomes last
+    → (outcomes : List Outcome) (last : State) → LoadRun state channel session file bytes outcomes last → IsFileLoaded state channel session file bytes outcomes last

@@ -4,8 +4,8 @@ use Rattle.apdu_core.specs.Apdu.{Apdu}
 use Rattle.card_types.specs.declared.level.Level.TheVariants.{EncMac}
 use Rattle.hex.specs.Hex.{encode_lower}
 use Rattle.scp03_host.specs.Wrapped.{room_for}
-use Rattle.script_tool.specs.Command.{spelled}
-use Rattle.script_tool.specs.Load.{block_element, load_blocks, loading}
+use Rattle.script_tool.specs.Command.{command_bytes}
+use Rattle.script_tool.specs.Load.{block_command, block_element, load_blocks}
 use Rattle.script_tool.specs.Loading.{block_count}
 use Rattle.script_tool.specs.Tokens.{install_command}
 use Rattle.script_lines.specs.declared.tokens.Tokens.TheVariants.{Absent}
@@ -21,7 +21,7 @@ installing_file file bytes = install_command Absent 0x02 (file ∷ [] ∷ sha256
 
 -- LOAD of the block with this number, which so many follow
 abbrev pub block_at : (left number : ℕ) → List ℕ → Apdu
-block_at left number bytes = loading (left == 0) number (take block_size (drop (number * block_size) bytes))
+block_at left number bytes = block_command (left == 0) number (take block_size (drop (number * block_size) bytes))
 
 -- the commands that load an Executable Load File whole into the acting domain, in blocks of 239 bytes
 abbrev pub load_commands : (file bytes : List ℕ) → List Apdu
@@ -39,4 +39,4 @@ pack file bytes aids = load_commands file bytes ++ map (installing_applet file) 
 
 -- `send` and the hexadecimal digits of a command
 abbrev pub send_line : Apdu → List ℕ
-send_line command = codes "send " ++ encode_lower (spelled command)
+send_line command = codes "send " ++ encode_lower (command_bytes command)

@@ -2,7 +2,7 @@
 -- it applies.
 use Rattle.std.specs.Prelude.{◌≡◌, ℕ, ◌<◌, ◌≤◌, List, [], ◌∷◌, ◌++◌, length}
 use Rattle.cap_pack.specs.Cap.{AreWhole, HasHeader, ListsCounted, NoneRepeats}
-use Rattle.cap_pack.specs.Components.{BeginNone, BeginWith, Component, Stands, size_of}
+use Rattle.cap_pack.specs.Components.{BeginNone, BeginWith, Component, Stands, components_size}
 use Rattle.cap_pack.specs.declared.component.TheConstants.{APPLETS}
 use Rattle.cap_pack.specs.declared.limit.TheConstants.{CAP_LIMIT}
 use Rattle.cap_pack.specs.declared.stop.CapStop.{CapStop}
@@ -10,7 +10,7 @@ use Rattle.cap_pack.specs.declared.stop.CapStop.TheVariants.{Large, Component as
 
 -- after whole components, at byte n, bytes are left that begin none
 abbrev pub BreakAt : ℕ → List ℕ → Type 0
-BreakAt n bytes = (components : List Component) × (rest : List ℕ) × BeginWith components rest bytes × BeginNone rest × (n ≡ size_of components)
+BreakAt n bytes = (components : List Component) × (rest : List ℕ) × BeginWith components rest bytes × BeginNone rest × (n ≡ components_size components)
 
 -- the first component is a header, of some package
 abbrev pub HasSomeHeader : List Component → Type 0
@@ -27,9 +27,9 @@ ListsNoneAt n components = (component : Component) × Stands n component compone
     × ((aids : List (List ℕ)) → ListsCounted aids component.content → ⊥)
 
 -- the cause that comes first
-abbrev pub Stops : List ℕ → CapStop → Type 0
-Stops bytes Large = CAP_LIMIT < length bytes
-Stops bytes (Broken n) = (length bytes ≤ CAP_LIMIT) × BreakAt n bytes
-Stops bytes Header = AreWhole (λ components. HasSomeHeader components → ⊥) bytes
-Stops bytes (Twice n) = AreWhole (λ components. HasSomeHeader components × RepeatsAt n components) bytes
-Stops bytes (Applets n) = AreWhole (λ components. HasSomeHeader components × NoneRepeats components × ListsNoneAt n components) bytes
+abbrev pub StopsPacking : List ℕ → CapStop → Type 0
+StopsPacking bytes Large = CAP_LIMIT < length bytes
+StopsPacking bytes (Broken n) = (length bytes ≤ CAP_LIMIT) × BreakAt n bytes
+StopsPacking bytes Header = AreWhole (λ components. HasSomeHeader components → ⊥) bytes
+StopsPacking bytes (Twice n) = AreWhole (λ components. HasSomeHeader components × RepeatsAt n components) bytes
+StopsPacking bytes (Applets n) = AreWhole (λ components. HasSomeHeader components × NoneRepeats components × ListsNoneAt n components) bytes

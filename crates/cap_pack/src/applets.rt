@@ -3,7 +3,7 @@
 ghost use Rattle.std.specs.Prelude.{◌≡◌, ◌<◌, ◌++◌, ℕ, List, IfNone, IfSome, length, slice_get};
 ghost use Rattle.card_types.specs.Aid.{IsAid};
 ghost use Rattle.tokens_receipts.specs.Receipt.{with_length};
-ghost use Rattle.cap_pack.specs.Cap.{AreApplets, Lists, ListsCounted};
+ghost use Rattle.cap_pack.specs.Cap.{AreApplets, ListsApplets, ListsCounted};
 
 use crate::header::split_aid;
 use card_types::Aid;
@@ -30,7 +30,7 @@ fn split_applet(bytes: &[u8]) -> Option<(Aid, &[u8])>
 // The bytes after so many applets.
 fn skip(bytes: &[u8], count: usize) -> Option<&[u8]>
     ensures applets { IfSome result (λ rest. (aids : List (List ℕ)) × (length aids ≡ count) × AreApplets aids rest.now bytes.now) }
-    ensures none { IfNone result ((aids : List (List ℕ)) → length aids ≡ count → Lists aids bytes.now → ⊥) }
+    ensures none { IfNone result ((aids : List (List ℕ)) → length aids ≡ count → ListsApplets aids bytes.now → ⊥) }
 {
     let mut rest = bytes;
     for _ in 0..count {
@@ -44,7 +44,7 @@ fn skip(bytes: &[u8], count: usize) -> Option<&[u8]>
 
 /// The list of applets in the content of an applet component.
 pub fn read(content: &[u8]) -> Option<AppletList<'_>>
-    ensures list { IfSome result (λ list. (aids : List (List ℕ)) × ListsCounted aids content.now × (list.count ≡ length aids) × Lists aids list.bytes.now) }
+    ensures list { IfSome result (λ list. (aids : List (List ℕ)) × ListsCounted aids content.now × (list.count ≡ length aids) × ListsApplets aids list.bytes.now) }
     ensures none { IfNone result ((aids : List (List ℕ)) → ListsCounted aids content.now → ⊥) }
 {
     let [count, bytes @ ..] = content else {
@@ -60,7 +60,7 @@ pub fn read(content: &[u8]) -> Option<AppletList<'_>>
 /// The AID of the applet with this index.
 pub fn applet(bytes: &[u8], index: usize) -> Option<Aid>
     ensures aid { IfSome result IsAid }
-    ensures named { (aids : List (List ℕ)) → Lists aids bytes.now → index < length aids → result ≡ slice_get aids index }
+    ensures named { (aids : List (List ℕ)) → ListsApplets aids bytes.now → index < length aids → result ≡ slice_get aids index }
 {
     let rest = skip(bytes, index)?;
     match split_applet(rest) {

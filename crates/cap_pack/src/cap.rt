@@ -1,11 +1,11 @@
 //! CAP files.
 
 ghost use Rattle.std.specs.Prelude.{◌≡◌, ◌↔◌, ℕ, List, Err, IfErr, IfOk, IsOkAnd, length};
-ghost use Rattle.cap_pack.specs.Cap.{CapOf, HasApplets, Lists, NoneRepeats};
+ghost use Rattle.cap_pack.specs.Cap.{CapOf, HasApplets, ListsApplets, NoneRepeats};
 ghost use Rattle.cap_pack.specs.Components.{Component};
 ghost use Rattle.cap_pack.specs.Held.{IsCap};
 ghost use Rattle.cap_pack.specs.Outlines.{Outlines};
-ghost use Rattle.cap_pack.specs.Stops.{ListsNoneAt, Stops};
+ghost use Rattle.cap_pack.specs.Stops.{ListsNoneAt, StopsPacking};
 
 use crate::applets::{self, AppletList};
 use crate::header::package;
@@ -26,7 +26,7 @@ pub struct Cap<'a> {
 // The list of applets that components have, or none.
 fn applet_list<'a>(outline: &Outline<'a>) -> Result<AppletList<'a>, CapStop>
     ensures list { (components : List Component) → Outlines components outline.now → NoneRepeats components
-        → IfOk result (λ list. (aids : List (List ℕ)) × HasApplets aids components × (list.count ≡ length aids) × Lists aids list.bytes.now) }
+        → IfOk result (λ list. (aids : List (List ℕ)) × HasApplets aids components × (list.count ≡ length aids) × ListsApplets aids list.bytes.now) }
     ensures stop { (components : List Component) → Outlines components outline.now → NoneRepeats components
         → IfErr result (λ stop. (n : ℕ) × (stop ≡ CapStop.Applets n) × ListsNoneAt n components) }
 {
@@ -46,7 +46,7 @@ fn applet_list<'a>(outline: &Outline<'a>) -> Result<AppletList<'a>, CapStop>
 fn judged(bytes: &[u8]) -> Result<Cap<'_>, CapStop>
     ensures same { IfOk result (λ cap. cap.bytes.now ≡ bytes.now) }
     ensures cap { IfOk result (λ cap. (aids : List (List ℕ)) × IsCap cap aids) }
-    ensures stop { IfErr result (Stops bytes.now) }
+    ensures stop { IfErr result (StopsPacking bytes.now) }
 {
     if bytes.len() > CAP_LIMIT {
         return Err(CapStop::Large);
@@ -76,7 +76,7 @@ pub fn read(bytes: &[u8]) -> Result<Cap<'_>, CapStop>
     ensures cap { IfOk result (λ cap. (aids : List (List ℕ)) × IsCap cap aids) }
     ensures only { (file : List ℕ) (aids : List (List ℕ)) → CapOf bytes.now file aids
         → IsOkAnd result (λ cap. (cap.package ≡ file) × IsCap cap aids) }
-    ensures stop { (stop : CapStop) → (result ≡ Err stop) ↔ Stops bytes.now stop }
+    ensures stop { (stop : CapStop) → (result ≡ Err stop) ↔ StopsPacking bytes.now stop }
 {
     judged(bytes)
 }

@@ -1,7 +1,7 @@
 //! Components at the front of bytes.
 
 ghost use Rattle.std.specs.Prelude.{◌≡◌, ◌⊎◌, ◌≤◌, ◌+◌, ◌++◌, [], IfNone, IfSome, length};
-ghost use Rattle.cap_pack.specs.Components.{BeginNone, IsComponent, spelled};
+ghost use Rattle.cap_pack.specs.Components.{BeginNone, IsComponent, component_bytes};
 ghost use Rattle.cap_pack.specs.Held.{component_of};
 
 /// The tag of the header.
@@ -20,7 +20,7 @@ pub struct Component<'a> {
 /// The component at the front, and the bytes after it.
 pub fn split(bytes: &[u8]) -> Option<(Component<'_>, &[u8])>
     ensures component { IfSome result (λ found. IsComponent (component_of found.0)) }
-    ensures spelled { IfSome result (λ found. bytes.now ≡ spelled (component_of found.0) ++ found.1.now) }
+    ensures spelled { IfSome result (λ found. bytes.now ≡ component_bytes (component_of found.0) ++ found.1.now) }
     ensures shorter { IfSome result (λ found. length found.1.now + 3 ≤ length bytes.now) }
     ensures none { IfNone result ((bytes.now ≡ []) ⊎ BeginNone bytes.now) }
 {

@@ -3,8 +3,8 @@
 ghost use Rattle.std.specs.Prelude.{◌≡◌, ◌≤◌, ◌↔◌, ℕ, List, [], Err, IfOk, IsOkAnd, length};
 ghost use Rattle.cap_pack.specs.Cap.{CapOf};
 ghost use Rattle.cap_pack.specs.Held.{IsCap};
-ghost use Rattle.cap_pack.specs.Input.{SpellsLine, joined, joining, limited};
-ghost use Rattle.cap_pack.specs.Stops.{Stops};
+ghost use Rattle.cap_pack.specs.Input.{SpellsLine, input_with, joining, within_cap_limit};
+ghost use Rattle.cap_pack.specs.Stops.{StopsPacking};
 ghost use Rattle.io_edge.specs.declared.line.TheConstants.{LINE_LIMIT};
 ghost use Rattle.script_tool.specs.Words.{Reads};
 
@@ -55,7 +55,7 @@ impl Model for Joined {
 impl Joined {
     /// No bytes. Takes memory for all that can come. `AllocError` is want of that memory.
     pub fn new(alloc: Global) -> Result<Joined, AllocError>
-        ensures { IfOk result (λ kept. kept ≡ limited []) }
+        ensures { IfOk result (λ kept. kept ≡ within_cap_limit []) }
     {
         Ok(Joined {
             bytes: Vec::with_capacity(alloc, CAP_LIMIT)?,
@@ -65,7 +65,7 @@ impl Joined {
 
     // Joins further bytes.
     fn add(&mut self, bytes: &[u8])
-        ensures { self.new ≡ joined self.old bytes.now }
+        ensures { self.new ≡ input_with self.old bytes.now }
     {
         if self.large || bytes.len() > CAP_LIMIT - self.bytes.len() {
             self.large = true;
@@ -76,11 +76,11 @@ impl Joined {
 
     /// Reads all bytes that were spelled, as `read` does, though there may be more than are kept.
     pub fn read(&self) -> Result<Cap<'_>, CapStop>
-        ensures same { (all : List ℕ) → self.now ≡ limited all → IfOk result (λ cap. cap.bytes.now ≡ all) }
+        ensures same { (all : List ℕ) → self.now ≡ within_cap_limit all → IfOk result (λ cap. cap.bytes.now ≡ all) }
         ensures cap { IfOk result (λ cap. (aids : List (List ℕ)) × IsCap cap aids) }
-        ensures only { (all file : List ℕ) (aids : List (List ℕ)) → self.now ≡ limited all → CapOf all file aids
+        ensures only { (all file : List ℕ) (aids : List (List ℕ)) → self.now ≡ within_cap_limit all → CapOf all file aids
             → IsOkAnd result (λ cap. (cap.package ≡ file) × IsCap cap aids) }
-        ensures stop { (all : List ℕ) (stop : CapStop) → self.now ≡ limited all → (result ≡ Err stop) ↔ Stops all stop }
+        ensures stop { (all : List ℕ) (stop : CapStop) → self.now ≡ within_cap_limit all → (result ≡ Err stop) ↔ StopsPacking all stop }
     {
         if self.large {
             return Err(CapStop::Large);

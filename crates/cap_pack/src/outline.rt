@@ -1,7 +1,7 @@
 //! What a walk through the components of a CAP file meets.
 
 ghost use Rattle.std.specs.Prelude.{◌≡◌, ◌≤◌, ◌++◌, [], ◌∷◌, List, IfErr, IfOk, length};
-ghost use Rattle.cap_pack.specs.Components.{AreComponents, size_of};
+ghost use Rattle.cap_pack.specs.Components.{AreComponents, components_size};
 ghost use Rattle.cap_pack.specs.Components as standard;
 ghost use Rattle.cap_pack.specs.Held.{component_of};
 ghost use Rattle.cap_pack.specs.Outlines.{Outlines, repeats};
@@ -52,7 +52,7 @@ impl<'a> Outline<'a> {
 
     // Goes on by a component that begins at this place.
     fn meet(&mut self, place: u32, component: &Component<'a>)
-        ensures { (before : List standard.Component) → Outlines before self.old → place ≡ size_of before
+        ensures { (before : List standard.Component) → Outlines before self.old → place ≡ components_size before
             → Outlines (before ++ component_of component.now ∷ []) self.new }
     {
         if self.repeats(component.tag) {

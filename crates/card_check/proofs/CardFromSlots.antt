@@ -3,7 +3,7 @@ use Rattle.std.proofs.Common.{◌≡◌, inl, inr, ℕ, ◌≤◌, List, [], ◌
 use Rattle.std.specs.Prelude.{All, Contains, map}
 use Rattle.std.specs.List.{concat}
 use Rattle.std.proofs.lemmas.List.Elements.{All-contains, Contains-append_left, Contains-append_right}
-use Rattle.card_types.specs.Represents.{used, held}
+use Rattle.card_types.specs.Represents.{things_in, thing_in}
 use Rattle.card_types.specs.declared.factory.TheConstants.{FACTORY_FILE, ISSUER}
 use Rattle.card_types.specs.declared.limits.TheConstants.{FILE_LIMIT}
 use Rattle.card_types.specs.declared.tables.Entry.{Entry}
@@ -27,7 +27,7 @@ pages_of_one (first ∷ files) file number there among = elim (contains_cases fi
   | inr later ↦ Contains-append_right (pages_named first) (concat (map pages_named files)) number (pages_of_one files file number later among)
 ]
 
-pub card_from_slots : (page : ℕ → List ℕ) → HasPages page → (tables : Tables) → HasCardSlots tables → All HasPageNumbers (used tables.files.items) → IsCard page tables
+pub card_from_slots : (page : ℕ → List ℕ) → HasPages page → (tables : Tables) → HasCardSlots tables → All HasPageNumbers (things_in tables.files.items) → IsCard page tables
 card_from_slots page whole tables card arrays =
     let issuer = issuer_entry tables card in
     let factory = factory_load_file tables card in
@@ -41,13 +41,13 @@ card_from_slots page whole tables card arrays =
           files = card.room.files;
           keys = card.room.keys;
           objects = card.room.objects;
-          issuer = used_from (λ (entry : Entry). entry.aid ≡ ISSUER) (held tables.entries.items 0) issuer.0 issuer.1 issuer.2.aid;
+          issuer = used_from (λ (entry : Entry). entry.aid ≡ ISSUER) (thing_in tables.entries.items 0) issuer.0 issuer.1 issuer.2.aid;
         };
-        factory_file = used_from (λ (file : LoadFile). (file.aid ≡ FACTORY_FILE) × (file.len ≡ 0)) (held tables.files.items 0) factory.0 factory.1 (factory.2.aid, factory.2.len);
-        files = all_of_members IsInLoadPages (used tables.files.items) (λ file there. record {
-          size = All-contains (λ (f : LoadFile). f.len ≤ FILE_LIMIT) (used tables.files.items) file card.pages.lengths there;
+        factory_file = used_from (λ (file : LoadFile). (file.aid ≡ FACTORY_FILE) × (file.len ≡ 0)) (thing_in tables.files.items 0) factory.0 factory.1 (factory.2.aid, factory.2.len);
+        files = all_of_members IsInLoadPages (things_in tables.files.items) (λ file there. record {
+          size = All-contains (λ (f : LoadFile). f.len ≤ FILE_LIMIT) (things_in tables.files.items) file card.pages.lengths there;
           pages = all_of_members IsLoadPage (pages_named file) (λ number among.
-              All-contains IsLoadPage (all_pages tables.files.items) number card.pages.pages.each (pages_of_one (used tables.files.items) file number there among));
+              All-contains IsLoadPage (all_pages tables.files.items) number card.pages.pages.each (pages_of_one (things_in tables.files.items) file number there among));
         });
         apart = card.pages.pages.apart;
         says = says;

@@ -14,7 +14,7 @@ use Rattle.card_types.specs.KeySets.{HasKeys, IsKeyOf}
 use Rattle.card_types.specs.Privileges.{has, security_domain}
 use Rattle.card_types.specs.Registry as registry
 use Rattle.card_types.specs.Registry.{entry_named, file_named}
-use Rattle.card_types.specs.Represents.{Represents, counter_of, domain_aid, entry_of, file_of, key_of, object_of, used, held}
+use Rattle.card_types.specs.Represents.{Represents, counter_of, domain_aid, entry_of, file_of, key_of, object_of, things_in, thing_in}
 use Rattle.card_types.specs.Well.{IsFactoryFile, IsIssuerDomain, IsWellCounter, IsWellFile, IsWellKey, IsWellObject, Well}
 use Rattle.card_types.specs.declared.factory.TheConstants.{ISSUER, FACTORY_FILE}
 use Rattle.card_types.specs.declared.found.Found.TheVariants as found
@@ -34,7 +34,7 @@ use Rattle.card_types.proofs.SameAid.{same_aid_decides}
 use Rattle.card_types.proofs.SetMembers.{counter_there}
 use Rattle.card_types.proofs.SetNames.{set_of_counter}
 use Rattle.card_types.proofs.Shows.{shows_used}
-use Rattle.card_check.specs.CardSlots.{HasCardSlots, IsAlone, IsCardEntry, IsCardFile, IsCardKey, IsCardObject, IsDomainSlot, IsFactoryLoadFile, IsIssuerEntry, is_key_of}
+use Rattle.card_check.specs.CardSlots.{HasCardSlots, IsCardEntry, IsCardFile, IsCardKey, IsCardObject, IsDomainSlot, IsFactoryLoadFile, IsIssuerEntry, IsOnlyWithAid, is_key_of}
 use Rattle.card_check.specs.IsCard.{IsCard, IsInLoadPages, pages_named}
 use Rattle.page_journal.specs.Pages.{IsLoadPage}
 use Rattle.card_check.specs.LoadPages.{HaveLoadPages}
@@ -63,17 +63,17 @@ module _ (page : ℕ → List ℕ) (tables : Tables) (card : IsCard page tables)
   abbrev well : Well said
   well = card.of.well
 
-  first_entry : (entry : Entry) × (held entries 0 ≡ Some entry) × (entry.aid ≡ ISSUER)
-  first_entry = in_used (λ (entry : Entry). entry.aid ≡ ISSUER) (held entries 0) card.of.layout.issuer
+  first_entry : (entry : Entry) × (thing_in entries 0 ≡ Some entry) × (entry.aid ≡ ISSUER)
+  first_entry = in_used (λ (entry : Entry). entry.aid ≡ ISSUER) (thing_in entries 0) card.of.layout.issuer
 
-  first_file : (file : LoadFile) × (held files 0 ≡ Some file) × ((file.aid ≡ FACTORY_FILE) × (file.len ≡ 0))
-  first_file = in_used (λ (file : LoadFile). (file.aid ≡ FACTORY_FILE) × (file.len ≡ 0)) (held files 0) card.of.factory_file
+  first_file : (file : LoadFile) × (thing_in files 0 ≡ Some file) × ((file.aid ≡ FACTORY_FILE) × (file.len ≡ 0))
+  first_file = in_used (λ (file : LoadFile). (file.aid ≡ FACTORY_FILE) × (file.len ≡ 0)) (thing_in files 0) card.of.factory_file
 
   issuer_aid : domain_aid entries 0 ≡ ISSUER
   issuer_aid = domain_aid_is entries 0 first_entry.0 first_entry.1 ∙ first_entry.2
 
   -- a slot that is named by the AID of the Issuer Security Domain is its slot
-  issuer_slot : (slot : ℕ) (entry : Entry) → held entries slot ≡ Some entry → domain_aid entries slot ≡ ISSUER → slot ≡ 0
+  issuer_slot : (slot : ℕ) (entry : Entry) → thing_in entries slot ≡ Some entry → domain_aid entries slot ≡ ISSUER → slot ≡ 0
   issuer_slot slot entry at named = same_domain page tables said says slot 0 entry first_entry.0 at first_entry.1 (named ∙ sym issuer_aid)
 
   issuer_is : IsIssuerEntry first_entry.0
@@ -105,37 +105,37 @@ module _ (page : ℕ → List ℕ) (tables : Tables) (card : IsCard page tables)
       let domain = file_domain_is_used page tables said says well 0 file at in
       record { aid = first_file.2.0; domain = issuer_slot file.domain domain.0 domain.1 is.domain; len = first_file.2.1 }
 
-  is_domain_slot : (slot : ℕ) → (domain : Entry) × (held entries slot ≡ Some domain) × (has security_domain domain.privileges ≡ true) → IsDomainSlot entries slot
-  is_domain_slot slot domain = used_from (λ (e : Entry). has security_domain e.privileges ≡ true) (held entries slot) domain.0 domain.1 domain.2
+  is_domain_slot : (slot : ℕ) → (domain : Entry) × (thing_in entries slot ≡ Some domain) × (has security_domain domain.privileges ≡ true) → IsDomainSlot entries slot
+  is_domain_slot slot domain = used_from (λ (e : Entry). has security_domain e.privileges ≡ true) (thing_in entries slot) domain.0 domain.1 domain.2
 
-  well_file : (slot : ℕ) (file : LoadFile) → held files slot ≡ Some file → IsWellFile said (file_of page entries file)
+  well_file : (slot : ℕ) (file : LoadFile) → thing_in files slot ≡ Some file → IsWellFile said (file_of page entries file)
   well_file slot file at = All-contains (IsWellFile said) said.files _ well.files ((shows_used (file_of page entries) files said.files says.files).there slot file at refl)
 
   -- no entry has the AID of a file
-  apart : (a b : ℕ) (x : Entry) (y : LoadFile) → held entries a ≡ Some x → held files b ≡ Some y → x.aid ≢ y.aid
+  apart : (a b : ℕ) (x : Entry) (y : LoadFile) → thing_in entries a ≡ Some x → thing_in files b ≡ Some y → x.aid ≢ y.aid
   apart a b x y at_a at_b alike =
       let none = (well_file b y at_b).apart in
       let found = entry_in_slot page tables said says a x at_a in
       let here : entry_named said y.aid ≡ Some (entry_of entries files x) = subst (λ (aid : List ℕ). entry_named said aid ≡ Some (entry_of entries files x)) alike found in
       cc
 
-  entry_alone : (slot : ℕ) (entry : Entry) → held entries slot ≡ Some entry → IsAlone tables (found.Entry slot) entry.aid
+  entry_alone : (slot : ℕ) (entry : Entry) → thing_in entries slot ≡ Some entry → IsOnlyWithAid tables (found.Entry slot) entry.aid
   entry_alone slot entry at (found.Entry other) named =
-      let there = held_with (λ (e : Entry). e.aid) (held entries other) entry.aid named in
+      let there = held_with (λ (e : Entry). e.aid) (thing_in entries other) entry.aid named in
       ap found.Entry (one_entry_slot page tables said says other slot there.0 entry there.1 at there.2)
   entry_alone slot entry at (found.File other) named =
-      let there = held_with (λ (f : LoadFile). f.aid) (held files other) entry.aid named in
+      let there = held_with (λ (f : LoadFile). f.aid) (thing_in files other) entry.aid named in
       absurd (apart slot other entry there.0 at there.1 (sym there.2))
 
-  file_alone : (slot : ℕ) (file : LoadFile) → held files slot ≡ Some file → IsAlone tables (found.File slot) file.aid
+  file_alone : (slot : ℕ) (file : LoadFile) → thing_in files slot ≡ Some file → IsOnlyWithAid tables (found.File slot) file.aid
   file_alone slot file at (found.Entry other) named =
-      let there = held_with (λ (e : Entry). e.aid) (held entries other) file.aid named in
+      let there = held_with (λ (e : Entry). e.aid) (thing_in entries other) file.aid named in
       absurd (apart other slot there.0 file there.1 at there.2)
   file_alone slot file at (found.File other) named =
-      let there = held_with (λ (f : LoadFile). f.aid) (held files other) file.aid named in
+      let there = held_with (λ (f : LoadFile). f.aid) (thing_in files other) file.aid named in
       ap found.File (one_file_slot page tables said says other slot there.0 file there.1 at there.2)
 
-  entry_is : (slot : ℕ) (entry : Entry) → held entries slot ≡ Some entry → IsCardEntry tables slot entry
+  entry_is : (slot : ℕ) (entry : Entry) → thing_in entries slot ≡ Some entry → IsCardEntry tables slot entry
   entry_is slot entry at =
       let is = well_entry page tables said says well slot entry at in
       let proper = is.proper in
@@ -145,7 +145,7 @@ module _ (page : ℕ → List ℕ) (tables : Tables) (card : IsCard page tables)
         alone = entry_alone slot entry at;
         domain = is_domain_slot entry.domain (domain_is_used page tables said says well slot entry at);
         leads = line_in_slots page tables said says well slot entry at;
-        loaded = some_from (held files entry.file) file.0 file.1;
+        loaded = some_from (thing_in files entry.file) file.0 file.1;
         kind = record {
           module_ = proper.module_;
           kind = proper.kind ∙ sym (is_factory_slot files first_file.0 first_file.1 first_file.2.0 (one_file_slot page tables said says) entry.file file.0 file.1);
@@ -156,7 +156,7 @@ module _ (page : ℕ → List ℕ) (tables : Tables) (card : IsCard page tables)
         receipts = proper.receipts;
       }
 
-  file_is : (slot : ℕ) (file : LoadFile) → held files slot ≡ Some file → IsCardFile tables slot file
+  file_is : (slot : ℕ) (file : LoadFile) → thing_in files slot ≡ Some file → IsCardFile tables slot file
   file_is slot file at =
       let is = well_file slot file at in
       record {
@@ -178,11 +178,11 @@ module _ (page : ℕ → List ℕ) (tables : Tables) (card : IsCard page tables)
 
   pages_are : HaveLoadPages files
   pages_are = record {
-    lengths = all_of_members (λ (f : LoadFile). f.len ≤ FILE_LIMIT) (used files) (λ file there. (All-contains IsInLoadPages (used files) file card.of.files there).size);
-    pages = record { each = pages_each (used files) card.of.files; apart = card.of.apart };
+    lengths = all_of_members (λ (f : LoadFile). f.len ≤ FILE_LIMIT) (things_in files) (λ file there. (All-contains IsInLoadPages (things_in files) file card.of.files there).size);
+    pages = record { each = pages_each (things_in files) card.of.files; apart = card.of.apart };
   }
 
-  key_is : (slot : ℕ) (key : KeyRec) → held tables.keys.items slot ≡ Some key → IsCardKey tables slot key
+  key_is : (slot : ℕ) (key : KeyRec) → thing_in tables.keys.items slot ≡ Some key → IsCardKey tables slot key
   key_is slot key at =
       let is : IsWellKey said (key_of entries key) = All-contains (IsWellKey said) said.keys _ well.keys ((keys_shown page tables said says).there slot key at refl) in
       let owner = key_owner_is_used page tables said says well slot key at in
@@ -194,7 +194,7 @@ module _ (page : ℕ → List ℕ) (tables : Tables) (card : IsCard page tables)
             is.size_of_set (key_of entries another) ((keys_shown page tables said says).there other another here refl) (ap (domain_aid entries) owned) versioned;
         name = is.name;
         alone = λ other has.
-            (let another = in_used (IsKeyOf key.owner key.version key.identifier) (held tables.keys.items other) has in
+            (let another = in_used (IsKeyOf key.owner key.version key.identifier) (thing_in tables.keys.items other) has in
             one_key_slot page tables said says other slot another.0 key another.1 at another.2.same_owner another.2.same_version another.2.same_identifier);
         whole = λ low.
             (let counter = counter_there said (domain_aid entries key.owner) key.version (is.whole low).counter in
@@ -214,22 +214,22 @@ module _ (page : ℕ → List ℕ) (tables : Tables) (card : IsCard page tables)
         );
       }
 
-  object_is : (slot : ℕ) (object : Object) → held tables.objects.items slot ≡ Some object → IsCardObject tables slot object
+  object_is : (slot : ℕ) (object : Object) → thing_in tables.objects.items slot ≡ Some object → IsCardObject tables slot object
   object_is slot object at =
       let is : IsWellObject said (object_of entries object) = All-contains (IsWellObject said) said.objects _ well.objects ((objects_shown page tables said says).there slot object at refl) in
       record {
         owner = is_domain_slot object.owner (object_owner_is_used page tables said says well slot object at);
         form = is.form;
         alone = λ other has.
-            (let another = in_used (λ (o : Object). (o.owner ≡ object.owner) × (o.tag ≡ object.tag)) (held tables.objects.items other) has in
+            (let another = in_used (λ (o : Object). (o.owner ≡ object.owner) × (o.tag ≡ object.tag)) (thing_in tables.objects.items other) has in
             one_object_slot page tables said says other slot another.0 object another.1 at another.2.0 another.2.1);
       }
 
   pub slots_of_card : HasCardSlots tables
   slots_of_card = record {
     room = record { entries = card.of.layout.entries; files = card.of.layout.files; keys = card.of.layout.keys; objects = card.of.layout.objects };
-    issuer = used_from IsIssuerEntry (held entries 0) first_entry.0 first_entry.1 issuer_is;
-    factory_file = used_from IsFactoryLoadFile (held files 0) first_file.0 first_file.1 factory_is;
+    issuer = used_from IsIssuerEntry (thing_in entries 0) first_entry.0 first_entry.1 issuer_is;
+    factory_file = used_from IsFactoryLoadFile (thing_in files 0) first_file.0 first_file.1 factory_is;
     entries = record { at = entry_is };
     files = record { at = file_is };
     pages = pages_are;

@@ -9,7 +9,7 @@ use Rattle.std.proofs.lemmas.Map.Lookups.{exact_unsigned}
 use Rattle.card_types.specs.Aid.{aid_order}
 use Rattle.card_types.specs.Registry.{counter_order, key_order, object_order}
 use Rattle.card_types.specs.Registry as registry
-use Rattle.card_types.specs.Represents.{Represents, counter_of, entry_of, file_of, keeps_counter, key_of, object_of, used}
+use Rattle.card_types.specs.Represents.{Represents, counter_of, entry_of, file_of, keeps_counter, key_of, object_of, things_in}
 use Rattle.card_types.specs.declared.tables.Entry.{Entry}
 use Rattle.card_types.specs.declared.tables.KeyRec.{KeyRec}
 use Rattle.card_types.specs.declared.tables.LoadFile.{LoadFile}
@@ -46,22 +46,22 @@ module _ (page : ℕ → List ℕ) (tables : Tables) (card : HasCardSlots tables
   abbrev by_file : registry.LoadFile → registry.LoadFile → Ordering
   by_file a b = aid_order a.aid b.aid
 
-  entries : Sorted by_entry (map view_entry (used tables.entries.items))
+  entries : Sorted by_entry (map view_entry (things_in tables.entries.items))
   entries = sort_used by_entry (on_total (λ (entry : registry.Entry). entry.aid) nat_list_cmp_total) view_entry tables.entries.items
       (λ a b x y at_a at_b kept_x kept_y tied. one_entry tables card a b x y at_a at_b (aid_equal_same x.aid y.aid tied))
 
-  files : Sorted by_file (map view_file (used tables.files.items))
+  files : Sorted by_file (map view_file (things_in tables.files.items))
   files = sort_used by_file (on_total (λ (file : registry.LoadFile). file.aid) nat_list_cmp_total) view_file tables.files.items
       (λ a b x y at_a at_b kept_x kept_y tied. one_file tables card a b x y at_a at_b (aid_equal_same x.aid y.aid tied))
 
-  keys : Sorted key_order (map view_key (used tables.keys.items))
+  keys : Sorted key_order (map view_key (things_in tables.keys.items))
   keys = sort_used key_order key_order_total view_key tables.keys.items (λ a b x y at_a at_b kept_x kept_y tied.
       (let owner = then_equal (aid_order (view_key x).owner (view_key y).owner) _ tied in
       let name = then_equal (nat_cmp x.version y.version) (nat_cmp x.identifier y.identifier) owner.1 in
       one_key tables card a b x y at_a at_b (aid_equal_same (view_key x).owner (view_key y).owner owner.0)
       (exact_unsigned x.version y.version name.0) (exact_unsigned x.identifier y.identifier name.1)))
 
-  counters : Sorted counter_order (map view_counter (filter keeps_counter (used tables.keys.items)))
+  counters : Sorted counter_order (map view_counter (filter keeps_counter (things_in tables.keys.items)))
   counters = sort_kept counter_order counter_order_total view_counter keeps_counter tables.keys.items (λ a b x y at_a at_b kept_x kept_y tied.
       (let name = then_equal (aid_order (view_key x).owner (view_key y).owner) (nat_cmp x.version y.version) tied in
       let first = eqb-true x.identifier 1 (and_parts (x.identifier == 1) (nat_lt x.version 0x70) kept_x).0 in
@@ -69,7 +69,7 @@ module _ (page : ℕ → List ℕ) (tables : Tables) (card : HasCardSlots tables
       one_key tables card a b x y at_a at_b (aid_equal_same (view_key x).owner (view_key y).owner name.0)
       (exact_unsigned x.version y.version name.1) (first ∙ sym second)))
 
-  objects : Sorted object_order (map view_object (used tables.objects.items))
+  objects : Sorted object_order (map view_object (things_in tables.objects.items))
   objects = sort_used object_order object_order_total view_object tables.objects.items (λ a b x y at_a at_b kept_x kept_y tied.
       (let name = then_equal (aid_order (view_object x).owner (view_object y).owner) (nat_cmp x.tag y.tag) tied in
       one_object tables card a b x y at_a at_b (aid_equal_same (view_object x).owner (view_object y).owner name.0) (exact_unsigned x.tag y.tag name.1)))

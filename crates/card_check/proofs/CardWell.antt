@@ -14,7 +14,7 @@ use Rattle.card_types.specs.KeySets.{HasKey, HasKeys, IsKeyOf}
 use Rattle.card_types.specs.Privileges.{has, security_domain}
 use Rattle.card_types.specs.Registry as registry
 use Rattle.card_types.specs.Registry.{domain_of, entry_named, file_named, is_domain, keys_of}
-use Rattle.card_types.specs.Represents.{Represents, counter_of, domain_aid, entry_of, file_aid, file_of, keeps_counter, key_of, object_of, used, held}
+use Rattle.card_types.specs.Represents.{Represents, counter_of, domain_aid, entry_of, file_aid, file_of, keeps_counter, key_of, object_of, things_in, thing_in}
 use Rattle.card_types.specs.Well.{IsDomainNamed, IsFactoryFile, IsIssuerDomain, IsWellCounter, IsWellEntry, IsWellFile, IsWellKey, IsWellObject, IsWholeSet, LeadsToRoot, Well, pages_of}
 use Rattle.card_types.specs.declared.factory.TheConstants.{ISSUER, FACTORY_FILE}
 use Rattle.card_types.specs.declared.limits.TheConstants.{DOMAIN_KEYS, ENTRIES, FILES, FILE_LIMIT, KEYS, OBJECTS}
@@ -52,22 +52,22 @@ module _ (page : ℕ → List ℕ) (whole : HasPages page) (tables : Tables) (ca
 
   domain_named : (slot : ℕ) → IsDomainSlot entries slot → IsDomainNamed said (domain_aid entries slot)
   domain_named slot is =
-      let domain = in_used (λ (e : Entry). has security_domain e.privileges ≡ true) (held entries slot) is in
+      let domain = in_used (λ (e : Entry). has security_domain e.privileges ≡ true) (thing_in entries slot) is in
       subst (IsDomainNamed said) (sym (domain_aid_is entries slot domain.0 domain.1))
       (used_from (λ (e : registry.Entry). is_domain e ≡ true) (entry_named said domain.0.aid) (entry_of entries files domain.0)
       (entry_in_slot page tables said says slot domain.0 domain.1) domain.2)
 
-  leads_named : (slot : ℕ) (entry : Entry) → held entries slot ≡ Some entry → LeadsToRoot said entry.aid
+  leads_named : (slot : ℕ) (entry : Entry) → thing_in entries slot ≡ Some entry → LeadsToRoot said entry.aid
   leads_named slot entry at =
       let leads = (card.entries.at slot entry at).leads in (
         map (domain_aid entries) leads.0,
         subst (λ (aid : List ℕ). IsLine (domain_of said) aid (map (domain_aid entries) leads.0)) (domain_aid_is entries slot entry at) (line_named page tables said says slot leads.0 leads.1),
       )
 
-  well_entry : (slot : ℕ) (entry : Entry) → held entries slot ≡ Some entry → IsWellEntry said (entry_of entries files entry)
+  well_entry : (slot : ℕ) (entry : Entry) → thing_in entries slot ≡ Some entry → IsWellEntry said (entry_of entries files entry)
   well_entry slot entry at =
       let is = card.entries.at slot entry at in
-      let file = in_some (held files entry.file) is.loaded in
+      let file = in_some (thing_in files entry.file) is.loaded in
       let factory = factory_load_file tables card in
       record {
         proper = record {
@@ -114,8 +114,8 @@ module _ (page : ℕ → List ℕ) (whole : HasPages page) (tables : Tables) (ca
         length-append (pages_named file) (concat (map pages_named fs)),
       )
 
-  module _ (arrays : All HasPageNumbers (used files)) where
-    well_file : (slot : ℕ) (file : LoadFile) → held files slot ≡ Some file → IsWellFile said (file_of page entries file)
+  module _ (arrays : All HasPageNumbers (things_in files)) where
+    well_file : (slot : ℕ) (file : LoadFile) → thing_in files slot ≡ Some file → IsWellFile said (file_of page entries file)
     well_file slot file at =
         let is = card.files.at slot file at in
         let factory = factory_load_file tables card in
@@ -125,13 +125,13 @@ module _ (page : ℕ → List ℕ) (whole : HasPages page) (tables : Tables) (ca
               apart tables card other slot entry file here at ((same_aid_decides entry.aid file.aid).0 same));
           domain = domain_named file.domain is.domain;
           size = elim (cases_eq slot 0) [
-            | inl first ↦ inl (let here : held files 0 ≡ Some file = subst (λ (s : ℕ). held files s ≡ Some file) first at in
+            | inl first ↦ inl (let here : thing_in files 0 ≡ Some file = subst (λ (s : ℕ). thing_in files s ≡ Some file) first at in
                 let same : file ≡ factory.0 = (let there = factory.1 in cc) in
                 ap (λ (f : LoadFile). f.aid) same ∙ factory.2.aid)
             | inr later ↦
                 (let among = used_from_held files slot file at in
-                let short : file.len ≤ FILE_LIMIT = All-contains (λ f. f.len ≤ FILE_LIMIT) (used files) file card.pages.lengths among in
-                let array : HasPageNumbers file = All-contains HasPageNumbers (used files) file arrays among in
+                let short : file.len ≤ FILE_LIMIT = All-contains (λ f. f.len ≤ FILE_LIMIT) (things_in files) file card.pages.lengths among in
+                let array : HasPageNumbers file = All-contains HasPageNumbers (things_in files) file arrays among in
                 let some = is.bytes (omega (arith, later)) in
                 inr (some_bytes file array some, omega (arith, bytes_at_most file, short)))
           ];
@@ -139,7 +139,7 @@ module _ (page : ℕ → List ℕ) (whole : HasPages page) (tables : Tables) (ca
 
   has_key_named : (owner version identifier slot : ℕ) → HasKey tables.keys.items owner version identifier slot → HasKeyNamed said (domain_aid entries owner) version identifier
   has_key_named owner version identifier slot has =
-      let key = in_used (IsKeyOf owner version identifier) (held tables.keys.items slot) has in
+      let key = in_used (IsKeyOf owner version identifier) (thing_in tables.keys.items slot) has in
       record {
         key = key_of entries key.0;
         is_there = (keys_shown page tables said says).there slot key.0 key.1 refl;
@@ -150,7 +150,7 @@ module _ (page : ℕ → List ℕ) (whole : HasPages page) (tables : Tables) (ca
 
   whole_set : (owner version : ℕ) (slots : List ℕ) → version < 0x70 → HasKeys tables.keys.items owner version slots → IsWholeSet said (domain_aid entries owner) version
   whole_set owner version slots low has =
-      let first = in_used (IsKeyOf owner version 1) (held tables.keys.items has.first) has.first_key in
+      let first = in_used (IsKeyOf owner version 1) (thing_in tables.keys.items has.first) has.first_key in
       whole_of said (domain_aid entries owner) version
       (has_key_named owner version 1 has.first has.first_key) (has_key_named owner version 2 has.second has.second_key) (has_key_named owner version 3 has.third has.third_key)
       (record {
@@ -161,7 +161,7 @@ module _ (page : ℕ → List ℕ) (whole : HasPages page) (tables : Tables) (ca
         version_is = first.2.same_version;
       })
 
-  well_key : (slot : ℕ) (key : KeyRec) → held tables.keys.items slot ≡ Some key → IsWellKey said (key_of entries key)
+  well_key : (slot : ℕ) (key : KeyRec) → thing_in tables.keys.items slot ≡ Some key → IsWellKey said (key_of entries key)
   well_key slot key at =
       let is = card.keys.at slot key at in
       record {
@@ -178,14 +178,14 @@ module _ (page : ℕ → List ℕ) (whole : HasPages page) (tables : Tables) (ca
         whole = λ low. (let set = is.whole low in whole_set key.owner key.version set.0 low set.1);
       }
 
-  well_counter : (slot : ℕ) (key : KeyRec) → held tables.keys.items slot ≡ Some key → keeps_counter key ≡ true → IsWellCounter said (counter_of entries key)
+  well_counter : (slot : ℕ) (key : KeyRec) → thing_in tables.keys.items slot ≡ Some key → keeps_counter key ≡ true → IsWellCounter said (counter_of entries key)
   well_counter slot key at keeps =
       let is = card.keys.at slot key at in
       let low : key.version < 0x70 = ltb-true key.version 0x70 (and_parts (key.identifier == 1) (nat_lt key.version 0x70) keeps).1 in
       let set = is.whole low in
       record { set = whole_set key.owner key.version set.0 low set.1; version = low; number = is.counter keeps }
 
-  well_object : (slot : ℕ) (object : Object) → held tables.objects.items slot ≡ Some object → IsWellObject said (object_of entries object)
+  well_object : (slot : ℕ) (object : Object) → thing_in tables.objects.items slot ≡ Some object → IsWellObject said (object_of entries object)
   well_object slot object at =
       let is = card.objects.at slot object at in
       record { owner = domain_named object.owner is.owner; form = is.form }
@@ -207,10 +207,10 @@ module _ (page : ℕ → List ℕ) (whole : HasPages page) (tables : Tables) (ca
           eq-eqb other.owner from.1.owner (one_domain tables card other.owner from.1.owner (card.keys.at slot other at).owner is.owner alike))) in
           omega (arith, is.few, same, length-filter mine said.keys, sum_by-IsPermutation (λ (k : registry.Key). cond (mine k) 1 0) _ said.keys says.keys))
 
-  few : {T X : Type 0} (view : T → X) (slots : List (Option T)) (shown : List X) (n : ℕ) → IsPermutation (map view (used slots)) shown → length slots ≡ n → length shown ≤ n
-  few view slots shown n same is = omega (arith, length_permutation _ shown same, length-map (used slots) view, used_at_most slots, is)
+  few : {T X : Type 0} (view : T → X) (slots : List (Option T)) (shown : List X) (n : ℕ) → IsPermutation (map view (things_in slots)) shown → length slots ≡ n → length shown ≤ n
+  few view slots shown n same is = omega (arith, length_permutation _ shown same, length-map (things_in slots) view, used_at_most slots, is)
 
-  pub card_is_well : All HasPageNumbers (used files) → Well said
+  pub card_is_well : All HasPageNumbers (things_in files) → Well said
   card_is_well arrays =
       let issuer = issuer_entry tables card in
       let factory = factory_load_file tables card in
@@ -221,7 +221,7 @@ module _ (page : ℕ → List ℕ) (whole : HasPages page) (tables : Tables) (ca
         few_files = few (file_of page entries) files said.files FILES says.files card.room.files;
         few_keys = few (key_of entries) tables.keys.items said.keys KEYS says.keys card.room.keys;
         few_objects = few (object_of entries) tables.objects.items said.objects OBJECTS says.objects card.room.objects;
-        few_pages = omega (arith, sum_by-IsPermutation (λ (file : registry.LoadFile). pages_of (length file.bytes)) _ said.files says.files, pages_summed (used files), few_load_pages (all_pages files) card.pages.pages);
+        few_pages = omega (arith, sum_by-IsPermutation (λ (file : registry.LoadFile). pages_of (length file.bytes)) _ said.files says.files, pages_summed (things_in files), few_load_pages (all_pages files) card.pages.pages);
         few_keys_each = few_keys;
         issuer = used_from IsIssuerDomain (entry_named said ISSUER) (entry_of entries files issuer.0)
             (subst (λ (aid : List ℕ). entry_named said aid ≡ Some (entry_of entries files issuer.0)) issuer.2.aid (entry_in_slot page tables said says 0 issuer.0 issuer.1))

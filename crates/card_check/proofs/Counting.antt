@@ -7,7 +7,7 @@ use Rattle.std.proofs.lemmas.List.{length-map}
 use Rattle.std.proofs.lemmas.List.Elements.{All-contains, All-tail}
 use Rattle.std.proofs.lemmas.List.Sums.{sum_by-cons}
 use Rattle.std.proofs.lemmas.Map.Steps.{length-le_from_distinct_below}
-use Rattle.card_types.specs.Represents.{used, held}
+use Rattle.card_types.specs.Represents.{things_in, thing_in}
 use Rattle.card_types.specs.declared.limits.TheConstants.{LOAD_PAGES}
 use Rattle.card_types.proofs.Members.{contains_first, contains_later, mapped}
 use Rattle.card_check.specs.IsCard.{HasPages}
@@ -15,7 +15,7 @@ use Rattle.page_journal.specs.Pages.{IsLoadPage}
 use Rattle.card_check.specs.LoadPages.{AreLoadPages}
 
 module _ {T : Type 0} where
-  pub used_at_most : (slots : List (Option T)) → length (used slots) ≤ length slots
+  pub used_at_most : (slots : List (Option T)) → length (things_in slots) ≤ length slots
   used_at_most [] = omega arith
   used_at_most (None ∷ slots) = (let rest = used_at_most slots in omega arith)
   used_at_most (Some thing ∷ slots) = (let rest = used_at_most slots in omega arith)
@@ -31,8 +31,8 @@ module _ {T X : Type 0} (view : T → X) (p : X → Bool) (q : Option T → Bool
   at_most false b follows = omega arith
 
   -- no more are counted by views than by slots where each that counts does so there too
-  pub count_of_views : (slots : List (Option T)) → ((slot : ℕ) (thing : T) → held slots slot ≡ Some thing → p (view thing) ≡ true → q (Some thing) ≡ true)
-      → count_by p (map view (used slots)) ≤ count_by q slots
+  pub count_of_views : (slots : List (Option T)) → ((slot : ℕ) (thing : T) → thing_in slots slot ≡ Some thing → p (view thing) ≡ true → q (Some thing) ≡ true)
+      → count_by p (map view (things_in slots)) ≤ count_by q slots
   count_of_views [] follows = omega arith
   count_of_views (None ∷ slots) follows =
       let rest = count_of_views slots (λ slot thing at. follows (suc slot) thing at) in
@@ -40,11 +40,11 @@ module _ {T X : Type 0} (view : T → X) (p : X → Bool) (q : Option T → Bool
   count_of_views (Some thing ∷ slots) follows =
       let rest = count_of_views slots (λ slot other at. follows (suc slot) other at) in
       let first = at_most (p (view thing)) (q (Some thing)) (follows zero thing refl) in
-      omega (arith, sum_by-cons (λ (o : Option T). cond (q o) 1 0) (Some thing) slots, sum_by-cons (λ (x : X). cond (p x) 1 0) (view thing) (map view (used slots)))
+      omega (arith, sum_by-cons (λ (o : Option T). cond (q o) 1 0) (Some thing) slots, sum_by-cons (λ (x : X). cond (p x) 1 0) (view thing) (map view (things_in slots)))
 
   -- no more are counted by slots than by views where each slot that counts does so there too
-  pub count_of_slots : (slots : List (Option T)) → q None ≡ false → ((slot : ℕ) (thing : T) → held slots slot ≡ Some thing → q (Some thing) ≡ true → p (view thing) ≡ true)
-      → count_by q slots ≤ count_by p (map view (used slots))
+  pub count_of_slots : (slots : List (Option T)) → q None ≡ false → ((slot : ℕ) (thing : T) → thing_in slots slot ≡ Some thing → q (Some thing) ≡ true → p (view thing) ≡ true)
+      → count_by q slots ≤ count_by p (map view (things_in slots))
   count_of_slots [] free follows = omega arith
   count_of_slots (None ∷ slots) free follows =
       let rest = count_of_slots slots free (λ slot thing at. follows (suc slot) thing at) in
@@ -53,7 +53,7 @@ module _ {T X : Type 0} (view : T → X) (p : X → Bool) (q : Option T → Bool
   count_of_slots (Some thing ∷ slots) free follows =
       let rest = count_of_slots slots free (λ slot other at. follows (suc slot) other at) in
       let first = at_most (q (Some thing)) (p (view thing)) (follows zero thing refl) in
-      omega (arith, sum_by-cons (λ (o : Option T). cond (q o) 1 0) (Some thing) slots, sum_by-cons (λ (x : X). cond (p x) 1 0) (view thing) (map view (used slots)))
+      omega (arith, sum_by-cons (λ (o : Option T). cond (q o) 1 0) (Some thing) slots, sum_by-cons (λ (x : X). cond (p x) 1 0) (view thing) (map view (things_in slots)))
 
 -- load pages that are all different are at most as many as there are
 among : (q : ℕ) (xs : List ℕ) → list_any (eqb q) xs ≡ true → Contains xs q

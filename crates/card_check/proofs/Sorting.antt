@@ -7,7 +7,7 @@ use Rattle.std.specs.declared.cmp.Ordering.{Ordering}
 use Rattle.std.specs.declared.cmp.Ordering.TheVariants.{Equal}
 use Rattle.std.proofs.lemmas.Bool.{cases_Bool}
 use Rattle.std.proofs.lemmas.List.Sorted.{Contains-permutation, IsPermutation-cons, IsPermutation-refl, IsPermutation-sym, IsPermutation-trans}
-use Rattle.card_types.specs.Represents.{used, held}
+use Rattle.card_types.specs.Represents.{things_in, thing_in}
 use Rattle.card_types.proofs.ChangeExists.{put_in}
 use Rattle.card_types.proofs.Members.{filtered, mapped}
 use Rattle.card_types.proofs.Shows.{held_from_used}
@@ -20,7 +20,7 @@ pub record Sorted {X : Type 0} (order : X → X → Ordering) (xs : List X) : Ty
 
 -- no two slots have things that are kept and tie
 abbrev pub AreApart : {T X : Type 0} → (X → X → Ordering) → (T → X) → (T → Bool) → List (Option T) → Type 0
-AreApart order view keep slots = (a b : ℕ) (x y : _) → held slots a ≡ Some x → held slots b ≡ Some y → keep x ≡ true → keep y ≡ true
+AreApart order view keep slots = (a b : ℕ) (x y : _) → thing_in slots a ≡ Some x → thing_in slots b ≡ Some y → keep x ≡ true → keep y ≡ true
     → order (view x) (view y) ≡ Equal → a ≡ b
 
 module _ {T X : Type 0} (order : X → X → Ordering) (total : IsTotalOrder order) (view : T → X) where
@@ -38,16 +38,16 @@ module _ {T X : Type 0} (order : X → X → Ordering) (total : IsTotalOrder ord
         same = IsPermutation-trans (x ∷ xs) (x ∷ sorted.list) put.0 (IsPermutation-cons x xs sorted.list sorted.same) put.1.same;
       }
 
-  pub sort_kept : (keep : T → Bool) (slots : List (Option T)) → AreApart order view keep slots → Sorted order (map view (filter keep (used slots)))
+  pub sort_kept : (keep : T → Bool) (slots : List (Option T)) → AreApart order view keep slots → Sorted order (map view (filter keep (things_in slots)))
   sort_kept keep [] apart = sorted_none
   sort_kept keep (None ∷ slots) apart =
       sort_kept keep slots (λ a b x y at_a at_b kept_x kept_y tied. omega (arith, apart (suc a) (suc b) x y at_a at_b kept_x kept_y tied))
   sort_kept keep (Some thing ∷ slots) apart =
       let rest = sort_kept keep slots (λ a b x y at_a at_b kept_x kept_y tied. omega (arith, apart (suc a) (suc b) x y at_a at_b kept_x kept_y tied)) in
       elim (cases_Bool (keep thing)) [
-        | inl kept ↦ rw kept (sorted_more (view thing) (map view (filter keep (used slots))) (λ y there tied.
-            (let from = mapped view (filter keep (used slots)) y there in
-            let fits = filtered keep (used slots) from.0 from.1 in
+        | inl kept ↦ rw kept (sorted_more (view thing) (map view (filter keep (things_in slots))) (λ y there tied.
+            (let from = mapped view (filter keep (things_in slots)) y there in
+            let fits = filtered keep (things_in slots) from.0 from.1 in
             let at = held_from_used slots from.0 fits.0 in
             omega (arith, apart zero (suc at.0) thing from.0 refl at.1 kept fits.1 (ap (order (view thing)) from.2 ∙ tied))))
             rest)
@@ -58,5 +58,5 @@ module _ {T X : Type 0} (order : X → X → Ordering) (total : IsTotalOrder ord
   all_kept [] = refl
   all_kept (t ∷ things) = ap (λ rest. t ∷ rest) (all_kept things)
 
-  pub sort_used : (slots : List (Option T)) → AreApart order view (λ _. true) slots → Sorted order (map view (used slots))
-  sort_used slots apart = subst (λ (things : List T). Sorted order (map view things)) (all_kept (used slots)) (sort_kept (λ _. true) slots apart)
+  pub sort_used : (slots : List (Option T)) → AreApart order view (λ _. true) slots → Sorted order (map view (things_in slots))
+  sort_used slots apart = subst (λ (things : List T). Sorted order (map view things)) (all_kept (things_in slots)) (sort_kept (λ _. true) slots apart)

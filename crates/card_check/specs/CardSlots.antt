@@ -7,7 +7,7 @@ use Rattle.card_types.specs.Found.{aid_of}
 use Rattle.card_types.specs.Hierarchy.{IsLine}
 use Rattle.card_types.specs.KeySets.{HasKey, HasKeys}
 use Rattle.card_types.specs.Privileges.{IsNamed, authorized_management, delegated_management, has, receipt_generation, security_domain, token_verification}
-use Rattle.card_types.specs.Represents.{held, HasSlots, domain_slot, keeps_counter}
+use Rattle.card_types.specs.Represents.{thing_in, HasSlots, domain_slot, keeps_counter}
 use Rattle.card_types.specs.Well.{IsKeyLength, IsKeyName, IsObject, has_life}
 use Rattle.card_types.specs.declared.factory.TheConstants.{ISSUER, FACTORY_FILE, FACTORY_MODULE}
 use Rattle.card_types.specs.declared.found.Found.{Found}
@@ -24,19 +24,19 @@ use Rattle.card_types.specs.declared.found.Found.TheVariants as found
 -- What is so of the thing in each used slot.
 
 pub record EachSlot {T : Type 0} (slots : List (Option T)) (Is : ℕ → T → Type 0) : Type 0 where
-  pub at : (slot : ℕ) (thing : T) → held slots slot ≡ Some thing → Is slot thing
+  pub at : (slot : ℕ) (thing : T) → thing_in slots slot ≡ Some thing → Is slot thing
 
 -- the slot holds a security domain
 abbrev pub IsDomainSlot : List (Option Entry) → ℕ → Type 0
-IsDomainSlot entries slot = MatchOption (held entries slot) ⊥ (λ entry. has security_domain entry.privileges ≡ true)
+IsDomainSlot entries slot = MatchOption (thing_in entries slot) ⊥ (λ entry. has security_domain entry.privileges ≡ true)
 
 -- nothing in another slot has this AID
-abbrev pub IsAlone : Tables → Found → List ℕ → Type 0
-IsAlone tables this aid = (other : Found) → aid_of tables other ≡ Some aid → other ≡ this
+abbrev pub IsOnlyWithAid : Tables → Found → List ℕ → Type 0
+IsOnlyWithAid tables this aid = (other : Found) → aid_of tables other ≡ Some aid → other ≡ this
 
 -- steps to the domain lead from the slot to a root, which is its own domain
-abbrev pub LeadsToRoot : List (Option Entry) → ℕ → Type 0
-LeadsToRoot entries slot = (line : List ℕ) × IsLine (domain_slot entries) slot line
+abbrev pub SlotLeadsToRoot : List (Option Entry) → ℕ → Type 0
+SlotLeadsToRoot entries slot = (line : List ℕ) × IsLine (domain_slot entries) slot line
 
 -- a security domain is set apart by its Executable Load File, its Module and its life cycle states
 pub record HasKind (entry : Entry) : Type 0 where
@@ -60,10 +60,10 @@ pub record HasRights (privileges : Privileges) : Type 0 where
 -- the entry in the slot is one that a card may have
 pub record IsCardEntry (tables : Tables) (slot : ℕ) (entry : Entry) : Type 0 where
   pub aid : IsAid entry.aid
-  pub alone : IsAlone tables (found.Entry slot) entry.aid
+  pub alone : IsOnlyWithAid tables (found.Entry slot) entry.aid
   pub domain : IsDomainSlot tables.entries.items entry.domain
-  pub leads : LeadsToRoot tables.entries.items slot
-  pub loaded : IsSome (held tables.files.items entry.file)
+  pub leads : SlotLeadsToRoot tables.entries.items slot
+  pub loaded : IsSome (thing_in tables.files.items entry.file)
   pub kind : HasKind entry
   pub rights : HasRights entry.privileges
   pub receipts : entry.receipts ≤ RECEIPT_LIMIT
@@ -71,7 +71,7 @@ pub record IsCardEntry (tables : Tables) (slot : ℕ) (entry : Entry) : Type 0 w
 -- the Executable Load File in the slot is one that a card may have, but for its pages
 pub record IsCardFile (tables : Tables) (slot : ℕ) (file : LoadFile) : Type 0 where
   pub aid : IsAid file.aid
-  pub alone : IsAlone tables (found.File slot) file.aid
+  pub alone : IsOnlyWithAid tables (found.File slot) file.aid
   pub domain : IsDomainSlot tables.entries.items file.domain
   pub bytes : 0 < slot → 1 ≤ file.len
 
@@ -83,7 +83,7 @@ is_key_of owner (Some key) = key.owner == owner
 -- the keys of this owner with this key version number have this length
 abbrev pub HaveLength : List (Option KeyRec) → ℕ → ℕ → ℕ → Type 0
 HaveLength keys owner version size =
-    (other : ℕ) (key : KeyRec) → held keys other ≡ Some key → key.owner ≡ owner → key.version ≡ version → length key.bytes.items ≡ size
+    (other : ℕ) (key : KeyRec) → thing_in keys other ≡ Some key → key.owner ≡ owner → key.version ≡ version → length key.bytes.items ≡ size
 
 -- the slot holds a key of that key's owner with its key version number, of another length
 abbrev pub HasOtherLength : KeyRec → Option KeyRec → Type 0
@@ -104,7 +104,7 @@ pub record IsCardKey (tables : Tables) (slot : ℕ) (key : KeyRec) : Type 0 wher
 
 -- the slot holds a data object of this owner with this tag
 abbrev pub HasObject : List (Option Object) → ℕ → ℕ → ℕ → Type 0
-HasObject objects owner tag slot = MatchOption (held objects slot) ⊥ (λ object. (object.owner ≡ owner) × (object.tag ≡ tag))
+HasObject objects owner tag slot = MatchOption (thing_in objects slot) ⊥ (λ object. (object.owner ≡ owner) × (object.tag ≡ tag))
 
 -- the data object in the slot is one that a card may have
 pub record IsCardObject (tables : Tables) (slot : ℕ) (object : Object) : Type 0 where
@@ -130,8 +130,8 @@ pub record IsFactoryLoadFile (file : LoadFile) : Type 0 where
 -- the slots are those of a card
 pub record HasCardSlots (tables : Tables) : Type 0 where
   pub room : HasSlots tables
-  pub issuer : MatchOption (held tables.entries.items 0) ⊥ IsIssuerEntry
-  pub factory_file : MatchOption (held tables.files.items 0) ⊥ IsFactoryLoadFile
+  pub issuer : MatchOption (thing_in tables.entries.items 0) ⊥ IsIssuerEntry
+  pub factory_file : MatchOption (thing_in tables.files.items 0) ⊥ IsFactoryLoadFile
   pub entries : EachSlot tables.entries.items (IsCardEntry tables)
   pub files : EachSlot tables.files.items (IsCardFile tables)
   pub pages : HaveLoadPages tables.files.items

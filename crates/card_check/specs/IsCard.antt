@@ -1,7 +1,7 @@
 -- Tables that a card may be trusted with, over load pages of 256 bytes.
 use Rattle.std.specs.Prelude.{◌≡◌, ℕ, ◌≤◌, List, MatchOption, All, length, map, nat_eq, take}
 use Rattle.std.specs.List.{IsDistinct, concat}
-use Rattle.card_types.specs.Represents.{HasLayout, Represents, used, held}
+use Rattle.card_types.specs.Represents.{HasLayout, Represents, things_in, thing_in}
 use Rattle.card_types.specs.Registry.{Registry}
 use Rattle.card_types.specs.Well.{Well, pages_of}
 use Rattle.card_types.specs.declared.factory.TheConstants.{FACTORY_FILE}
@@ -27,9 +27,9 @@ HasPages page = (number : ℕ) → length (page number) ≡ 256
 -- are in the first slots, and no load page is named twice.
 pub record IsCardOf (page : ℕ → List ℕ) (tables : Tables) (registry : Registry) : Type 0 where
   pub layout : HasLayout tables
-  pub factory_file : MatchOption (held tables.files.items 0) ⊥ (λ file. (file.aid ≡ FACTORY_FILE) × (file.len ≡ 0))
-  pub files : All IsInLoadPages (used tables.files.items)
-  pub apart : IsDistinct nat_eq (concat (map pages_named (used tables.files.items)))
+  pub factory_file : MatchOption (thing_in tables.files.items 0) ⊥ (λ file. (file.aid ≡ FACTORY_FILE) × (file.len ≡ 0))
+  pub files : All IsInLoadPages (things_in tables.files.items)
+  pub apart : IsDistinct nat_eq (concat (map pages_named (things_in tables.files.items)))
   pub says : Represents page tables registry
   pub well : Well registry
 

@@ -1,7 +1,7 @@
 -- For the code inside. Load pages that are named.
 use Rattle.std.specs.Prelude.{◌≡◌, ℕ, ◌+◌, ◌<◌, ◌≤◌, ◌↔◌, Bool, true, false, List, Option, All, Contains, length, map, nat_eq, slice_index_or}
 use Rattle.std.specs.List.{IsDistinct, concat}
-use Rattle.card_types.specs.Represents.{used}
+use Rattle.card_types.specs.Represents.{things_in}
 use Rattle.card_types.specs.declared.limits.TheConstants.{FILE_LIMIT, LOAD_PAGES}
 use Rattle.card_types.specs.declared.tables.LoadFile.{LoadFile}
 use Rattle.card_check.specs.IsCard.{pages_named}
@@ -29,9 +29,9 @@ HasPageNumbers file = length file.pages ≡ 128
 
 -- the pages of some Executable Load Files
 abbrev pub all_pages : List (Option LoadFile) → List ℕ
-all_pages files = concat (map pages_named (used files))
+all_pages files = concat (map pages_named (things_in files))
 
 -- no file is longer than one may be, and their pages are load pages, none of them twice
 pub record HaveLoadPages (files : List (Option LoadFile)) : Type 0 where
-  pub lengths : All (λ file. file.len ≤ FILE_LIMIT) (used files)
+  pub lengths : All (λ file. file.len ≤ FILE_LIMIT) (things_in files)
   pub pages : AreLoadPages (all_pages files)

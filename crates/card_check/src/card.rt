@@ -4,7 +4,7 @@ ghost use Rattle.std.specs.Prelude.{◌↔◌, ℕ, List, IsTrue, All};
 ghost use Rattle.card_check.specs.CardSlots.{HasCardSlots};
 ghost use Rattle.card_check.specs.IsCard.{HasPages, IsCard};
 ghost use Rattle.card_check.specs.LoadPages.{HasPageNumbers};
-ghost use Rattle.card_types.specs.Represents.{used};
+ghost use Rattle.card_types.specs.Represents.{things_in};
 
 use crate::load_pages::have_load_pages;
 use crate::room::{has_factory_file, has_issuer, has_room};
@@ -21,7 +21,7 @@ pub fn is_card(tables: &Tables) -> bool
 // By the numbers of the slots.
 fn has_card_slots(tables: &Tables) -> bool
     ensures is { IsTrue result ↔ HasCardSlots tables.now }
-    ensures arrays { IsTrue result → All HasPageNumbers (used tables.now.files.items) }
+    ensures arrays { IsTrue result → All HasPageNumbers (things_in tables.now.files.items) }
 {
     has_room(tables)
         && has_issuer(tables)

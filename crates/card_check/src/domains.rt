@@ -1,7 +1,7 @@
 //! Security domains, and the steps up to a root.
 
 ghost use Rattle.std.specs.Prelude.{◌≡◌, ◌↔◌, IsTrue, length};
-ghost use Rattle.card_check.specs.CardSlots.{IsDomainSlot, LeadsToRoot};
+ghost use Rattle.card_check.specs.CardSlots.{IsDomainSlot, SlotLeadsToRoot};
 ghost use Rattle.card_types.specs.declared.limits.TheConstants.{ENTRIES};
 
 use bitflags::Flags;
@@ -21,7 +21,7 @@ pub fn is_domain(entries: &[Option<Entry>], slot: u8) -> bool
 /// known of loops.
 pub fn leads_to_root(entries: &[Option<Entry>], slot: u8) -> bool
     requires { length entries.now ≡ ENTRIES }
-    ensures { IsTrue result ↔ LeadsToRoot entries.now slot }
+    ensures { IsTrue result ↔ SlotLeadsToRoot entries.now slot }
 {
     let mut at = slot;
     for _ in 0..ENTRIES {

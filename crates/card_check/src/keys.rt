@@ -3,7 +3,7 @@
 ghost use Rattle.std.specs.Prelude.{◌≡◌, ◌↔◌, ℕ, ◌<◌, ◌≤◌, List, IsTrue, true, length};
 ghost use Rattle.std.specs.List.{count_by};
 ghost use Rattle.card_check.specs.CardSlots.{HasOtherLength, HaveLength, IsCardKey, is_key_of as is_key_by};
-ghost use Rattle.card_types.specs.Represents.{HasSlots, held, keeps_counter};
+ghost use Rattle.card_types.specs.Represents.{HasSlots, keeps_counter, thing_in};
 ghost use Rattle.card_types.specs.KeySets.{HasKey, HasKeys};
 ghost use Rattle.card_types.specs.Well.{IsKeyLength, IsKeyName};
 ghost use Rattle.card_types.specs.declared.limits.TheConstants.{COUNTER_LIMIT, KEYS};
@@ -58,7 +58,7 @@ fn has_length_of_set(keys: &[Option<KeyRec>], key: &KeyRec) -> bool
 }
 
 fn has_other_length(keys: &[Option<KeyRec>], slot: u8, key: &KeyRec) -> bool
-    ensures { IsTrue result ↔ HasOtherLength key.now (held keys.now slot) }
+    ensures { IsTrue result ↔ HasOtherLength key.now (thing_in keys.now slot) }
 {
     match in_slot(keys, slot) {
         Some(held) => {

@@ -1,7 +1,7 @@
 //! Load pages, which the Executable Load Files name.
 
 ghost use Rattle.std.specs.Prelude.{◌≡◌, ◌↔◌, ◌≤◌, ℕ, [], ◌∷◌, ◌++◌, List, true, false, IsTrue, OnSome, IfSome, IfNone, All, length};
-ghost use Rattle.card_types.specs.Represents.{used};
+ghost use Rattle.card_types.specs.Represents.{things_in};
 ghost use Rattle.card_check.specs.IsCard.{pages_named};
 ghost use Rattle.card_check.specs.LoadPages.{AreLoadPages, HasMarks, HasPageNumbers, HaveLoadPages, IsNewPage};
 ghost use Rattle.card_types.specs.declared.limits.TheConstants.{FILE_LIMIT, LOAD_PAGES};
@@ -12,7 +12,7 @@ use page_journal::FIRST_LOAD_PAGE;
 /// Whether no file is longer than one may be, and the files name load pages, none of them twice.
 pub fn have_load_pages(files: &[Option<LoadFile>]) -> bool
     ensures is { IsTrue result ↔ HaveLoadPages files.now }
-    ensures arrays { IsTrue result → All HasPageNumbers (used files.now) }
+    ensures arrays { IsTrue result → All HasPageNumbers (things_in files.now) }
 {
     let mut marks = [false; LOAD_PAGES];
     for slot in files {

@@ -1,7 +1,7 @@
 //! AIDs, of which no two are the same.
 
 ghost use Rattle.std.specs.Prelude.{◌≡◌, ◌≢◌, ◌↔◌, IsTrue, Some};
-ghost use Rattle.card_check.specs.CardSlots.{IsAlone};
+ghost use Rattle.card_check.specs.CardSlots.{IsOnlyWithAid};
 ghost use Rattle.card_types.specs.Represents.{HasSlots};
 ghost use Rattle.card_types.specs.Found.{aid_of};
 
@@ -10,7 +10,7 @@ use card_types::{ENTRIES, FILES, Found, Tables, in_slot};
 /// Whether nothing in another slot than this one has the AID with these bytes.
 pub fn is_alone(tables: &Tables, this: Found, aid: &[u8]) -> bool
     requires { HasSlots tables.now }
-    ensures { IsTrue result ↔ IsAlone tables.now this aid.now }
+    ensures { IsTrue result ↔ IsOnlyWithAid tables.now this aid.now }
 {
     for slot in 0..ENTRIES as u8 {
         if is_another(tables, this, aid, Found::Entry(slot)) {

@@ -2,7 +2,7 @@
 
 ghost use Rattle.std.specs.Prelude.{◌↔◌, IsTrue, MatchOption};
 ghost use Rattle.card_check.specs.CardSlots.{IsFactoryLoadFile, IsIssuerEntry};
-ghost use Rattle.card_types.specs.Represents.{HasSlots, held};
+ghost use Rattle.card_types.specs.Represents.{HasSlots, thing_in};
 
 use card_types::{
     ENTRIES, Entry, FACTORY_FILE, FACTORY_MODULE, FILES, ISSUER, ISSUER_SLOT, KEYS, Life, LoadFile,
@@ -24,7 +24,7 @@ pub fn has_room(tables: &Tables) -> bool
 
 /// Whether the Issuer Security Domain is in its slot.
 pub fn has_issuer(tables: &Tables) -> bool
-    ensures { IsTrue result ↔ MatchOption (held tables.now.entries.items 0) ⊥ IsIssuerEntry }
+    ensures { IsTrue result ↔ MatchOption (thing_in tables.now.entries.items 0) ⊥ IsIssuerEntry }
 {
     in_slot(&tables.entries, ISSUER_SLOT).is_some_and(is_issuer)
 }
@@ -42,7 +42,7 @@ fn is_issuer(entry: &Entry) -> bool
 
 /// Whether the factory's Executable Load File is in its slot.
 pub fn has_factory_file(tables: &Tables) -> bool
-    ensures { IsTrue result ↔ MatchOption (held tables.now.files.items 0) ⊥ IsFactoryLoadFile }
+    ensures { IsTrue result ↔ MatchOption (thing_in tables.now.files.items 0) ⊥ IsFactoryLoadFile }
 {
     in_slot(&tables.files, FACTORY_SLOT).is_some_and(is_factory_file)
 }

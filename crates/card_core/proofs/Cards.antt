@@ -3,7 +3,7 @@ use Rattle.std.proofs.Common.{◌≡◌, ℕ, ◌<◌, List, true, Option, Some,
 use Rattle.std.specs.Prelude.{MatchOption, All, map, nat_eq}
 use Rattle.std.specs.List.{IsDistinct, concat}
 use Rattle.std.proofs.lemmas.List.{length-replicate, length-set}
-use Rattle.card_core.specs.Prelude.{AreCards, HasIssuer, HasPages, IsInLoadPages, IsInOrder, Registry, Represents, SetsKey, Well, domain_aid, held, keeps_counter, pages_named, raised, raised_key, used}
+use Rattle.card_core.specs.Prelude.{AreCards, HasIssuer, HasPages, IsInLoadPages, IsInOrder, Registry, Represents, SetsKey, Well, domain_aid, keeps_counter, pages_named, raised_key, thing_in, things_in, with_counter_raised}
 use Rattle.card_types.proofs.DrawnCounter.{drawn_says, drawn_well}
 use Rattle.card_types.specs.declared.factory.TheConstants.{FACTORY_FILE}
 use Rattle.card_types.specs.declared.limits.TheConstants.{COUNTER_LIMIT}
@@ -21,13 +21,13 @@ in_order tables cards =
 
 -- the factory's Executable Load File is in the first slot
 abbrev pub IsFactoryIn : List (Option LoadFile) → Type 0
-IsFactoryIn slots = MatchOption (held slots 0) ⊥ (λ file. (file.aid ≡ FACTORY_FILE) × (file.len ≡ 0))
+IsFactoryIn slots = MatchOption (thing_in slots 0) ⊥ (λ file. (file.aid ≡ FACTORY_FILE) × (file.len ≡ 0))
 
 -- the slots hold Executable Load Files as a card's do
 pub record AreFiles (slots : List (Option LoadFile)) : Type 0 where
   pub factory : IsFactoryIn slots
-  pub pages : All IsInLoadPages (used slots)
-  pub apart : IsDistinct nat_eq (concat (map pages_named (used slots)))
+  pub pages : All IsInLoadPages (things_in slots)
+  pub apart : IsDistinct nat_eq (concat (map pages_named (things_in slots)))
 
 -- tables with as many slots are a card's too, where the Issuer Security Domain and the Executable Load Files stand as a card's do, and
 -- where they say a registry that a card may have, over load pages of 256 bytes
@@ -74,14 +74,14 @@ module _ (before after : Tables) (entries : after.entries.items ≡ before.entri
       (λ issuer. subst HasIssuer (sym entries) issuer) (λ are. subst AreFiles (sym files) are)
 
 -- tables are a card's after a sequence counter was drawn
-pub drawn_cards : (before after : Tables) (slot : ℕ) (key : KeyRec) → held before.keys.items slot ≡ Some key → keeps_counter key ≡ true
+pub drawn_cards : (before after : Tables) (slot : ℕ) (key : KeyRec) → thing_in before.keys.items slot ≡ Some key → keeps_counter key ≡ true
     → SetsKey before after slot (Some (raised_key key)) → key.counter < COUNTER_LIMIT → AreCards before → AreCards after
 drawn_cards before after slot key at keeps set below cards =
     cards_after before after set.entries set.files
     (ap (λ (slots : List (Option KeyRec)). length slots) set.keys ∙ length-set before.keys.items slot (Some (raised_key key)))
     (ap (λ (slots : List (Option Object)). length slots) set.objects)
     (λ page said says well. (
-      raised said (domain_aid before.entries.items key.owner) key.version,
+      with_counter_raised said (domain_aid before.entries.items key.owner) key.version,
       drawn_says before after slot key at keeps set page said says,
       drawn_well before after slot key at keeps set page said says below well,
     )) cards

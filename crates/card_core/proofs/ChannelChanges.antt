@@ -3,7 +3,7 @@ use Rattle.std.proofs.Common.{◌≡◌, ℕ, ◌<◌, List, Bool, true, false, 
 use Rattle.std.specs.Prelude.{IfSome, MatchOption, is_none, slice_index_or, slice_set, if◌then◌else◌, ◌==◌}
 use Rattle.std.specs.Option.{option_map}
 use Rattle.std.proofs.lemmas.List.{length-set, set-get_or}
-use Rattle.card_core.specs.Prelude.{Apdu, Channel, HasIssuer, HasLayout, IsDomainNamed, IsLoadNamed, IsSelectedIn, IsSound, IsWellLoad, KeepsAid, KeepsSelected, Kept, KeptRepresents, LoadSession, Nothing, Offered, Registry, Represents, RepresentsLoading, RepresentsSecureChannel, RepresentsState, SecureChannel, Secured, State, Volatile, Well, channel_at, channel_of, channel_passed, channel_with, fresh, held, held_on, held_passed, kept_live, kept_of_others, kept_set, live_passed, live_with_channel, live_without_load, live_without_place, load_without_channel, lowest_closed, place_in, place_of, secure_channel_of, session_passed, with_channel, with_offer_dropped, with_secure_channel, without_load, without_offer, without_offer_held, without_place}
+use Rattle.card_core.specs.Prelude.{Apdu, Channel, HasIssuer, HasLayout, IsDomainNamed, IsLoadNamed, IsSelectedIn, IsSound, IsWellLoad, KeepsAid, KeepsSelected, Kept, KeptRepresents, LoadSession, Nothing, Offered, Registry, Represents, RepresentsLoading, RepresentsSecureChannel, RepresentsState, SecureChannel, Secured, State, Volatile, Well, channel_at, channel_of, channel_passed, channel_with, fresh, held_on, held_passed, kept_live, kept_of_others, kept_set, live_passed, live_with_channel, live_without_load, live_without_place, load_without_channel, lowest_closed, place_in, place_of, secure_channel_of, session_passed, thing_in, with_channel, with_offer_dropped, with_secure_channel, without_load, without_offer, without_offer_held, without_place}
 use Rattle.card_types.proofs.Domains.{domain_aid_is, domain_named_is_used}
 use Rattle.card_types.specs.declared.factory.TheConstants.{ISSUER}
 use Rattle.card_types.specs.declared.tables.Entry.{Entry}
@@ -293,10 +293,10 @@ pub shows_same : (page : ℕ → List ℕ) (card : Kept) (registry : Registry) (
 shows_same page card registry a b same shows = subst (λ (v : Volatile). KeptRepresents page card (record { registry = registry; volatile = v })) same shows
 
 pub issuer_selected : (entries : List (Option Entry)) → HasIssuer entries → IsSelectedIn entries (Some ISSUER_SLOT) (Some (fresh ISSUER))
-issuer_selected entries has = by (held entries ISSUER_SLOT) refl has
+issuer_selected entries has = by (thing_in entries ISSUER_SLOT) refl has
   where
-    by : (o : Option Entry) → held entries ISSUER_SLOT ≡ o → MatchOption o ⊥ (λ entry. entry.aid ≡ ISSUER)
-        → (entry : Entry) × (held entries ISSUER_SLOT ≡ Some entry) × (entry.aid ≡ ISSUER)
+    by : (o : Option Entry) → thing_in entries ISSUER_SLOT ≡ o → MatchOption o ⊥ (λ entry. entry.aid ≡ ISSUER)
+        → (entry : Entry) × (thing_in entries ISSUER_SLOT ≡ Some entry) × (entry.aid ≡ ISSUER)
     by None at is = absurd is
     by (Some entry) at is = (entry, at, is)
 

@@ -3,7 +3,7 @@ use Rattle.std.proofs.Common.{◌≡◌, ◌⊎◌, ℕ, ◌<◌, List, true, fa
 use Rattle.std.specs.Prelude.{Contains, IfErr, IfSome, slice_index_or, slice_set, take, ◌++◌, ◌==◌}
 use Rattle.std.specs.Result.{IsErrAnd}
 use Rattle.std.proofs.lemmas.List.{set-set}
-use Rattle.card_core.specs.Prelude.{Admitted, Apdu, Bars, CarriesOut, ForKept, GeneralFails, HasCome, HasPages, IsFirst, IsInSession, IsKnown, IsOpenedIn, IsPassed, IsPlainManagement, IsSound, IsTerminatedFor, Kept, KeptRepresents, Opens, OpensAs, Passes, RepresentsSecureChannel, SecureChannel, Secured, Serves, Session, Short, State, accepting, admitted_as, apdu_of, channel_at, channel_of, class_of, class_passed, command_rules, held_on, held_passed, in_plain, is_protected, kept_set, live_passed, live_without_load, live_without_place, loaded, managing, plain_of, protected, rule_of, secure_channel_of, sent, status_bytes, status_word}
+use Rattle.card_core.specs.Prelude.{Admitted, Apdu, Bars, CarriesOut, ForKept, GeneralFails, HasCome, HasPages, IsFirst, IsInSession, IsKnown, IsOpenedIn, IsPassed, IsPlainManagement, IsSound, IsTerminatedFor, Kept, KeptRepresents, Opens, OpensAs, Passes, RepresentsSecureChannel, SecureChannel, Secured, Serves, Session, Short, State, accepting, admitted_as, apdu_of, channel_at, channel_of, class_of, class_passed, command_rules, held_on, held_passed, in_plain, is_protected, kept_set, live_passed, live_without_load, live_without_place, managing, pages_after, plain_of, reply_bytes, rule_of, secure_channel_of, session_reply, status_bytes, status_word}
 use Rattle.apdu_core.specs.declared.reply.Status.{Status}
 use Rattle.card_types.specs.declared.card_life.CardLife.{CardLife}
 use Rattle.load_session.specs.declared.load_write.LoadWrite.{LoadWrite}
@@ -161,10 +161,10 @@ module _ (page : ℕ → List ℕ) (card : Kept) (state : State) (bytes : List �
     -- it was carried out, or refused by a rule of its own, and its reply is closed
     pub closed_over : HasPages page → (body : List ℕ) → body ≡ plain_of command opened plain → (found : Option Place)
         → (received.command.ins ≡ GET_STATUS → found ≡ slice_index_or card.live.places received.channel None) → (left : Kept) (writes : List LoadWrite) (sent_body reply : List ℕ) (result : Result Status Rule)
-        → ForKept (kept_set card live' place now) (λ at admitted. IsPassed received.channel (in_plain command body) found admitted → CarriesOut (loaded at writes) admitted left sent_body result)
-        → ((session : Option Session) → IsOpenedIn opened now session → reply ≡ sent session sent_body (status_word result)) → Serves (loaded page writes) state bytes left reply (rule_of result)
+        → ForKept (kept_set card live' place now) (λ at admitted. IsPassed received.channel (in_plain command body) found admitted → CarriesOut (pages_after at writes) admitted left sent_body result)
+        → ((session : Option Session) → IsOpenedIn opened now session → reply ≡ reply_bytes session sent_body (status_word result)) → Serves (pages_after page writes) state bytes left reply (rule_of result)
     closed_over whole body body_is found told left writes sent_body reply result does closed =
-        carried_out (loaded page writes) state bytes command passes.session (plain_of command opened plain) left sent_body reply result come.sound passes.admits
+        carried_out (pages_after page writes) state bytes command passes.session (plain_of command opened plain) left sent_body reply result come.sound passes.admits
         (does page judged whole shown passes.sound passed_as) (closed passes.session passes.opened_in)
       where
         passed_as : IsPassed received.channel (in_plain command body) found judged
@@ -203,13 +203,13 @@ still_opened (Some count) before after same (Some session) is = subst (λ (h : C
 
 -- a reply is closed in plain for a command that came so, and in its session for one that was opened in it
 pub plain_closed : (held : ChannelSession) (reply body : List ℕ) (word : ℕ) → reply ≡ body ++ status_bytes word → (session : Option Session) → IsOpenedIn None held session
-    → reply ≡ sent session body word
+    → reply ≡ reply_bytes session body word
 plain_closed held reply body word is None none = is
 plain_closed held reply body word is (Some session) none = absurd none
 
 pub protected_closed : (opened : Option ℕ) (count : ℕ) → opened ≡ Some count → (held : ChannelSession) (reply body : List ℕ) (word : ℕ)
-    → ((session : Session) → RepresentsSecureChannel held (Secured session) → reply ≡ protected session body word) → (session : Option Session) → IsOpenedIn opened held session
-    → reply ≡ sent session body word
+    → ((session : Session) → RepresentsSecureChannel held (Secured session) → reply ≡ session_reply session body word) → (session : Option Session) → IsOpenedIn opened held session
+    → reply ≡ reply_bytes session body word
 protected_closed None count some held reply body word is session stands = cc
 protected_closed (Some size) count some held reply body word is None none = absurd none
 protected_closed (Some size) count some held reply body word is (Some session) stands = is session stands

@@ -5,7 +5,7 @@ use Rattle.std.proofs.lemmas.Bool.{and_parts, eqb-true}
 use Rattle.card_types.proofs.Domains.{domain_aid_is}
 use Rattle.card_types.proofs.ObjectNames.{object_in_slot, object_unnamed}
 use Rattle.card_types.proofs.SetNames.{has_from_held, has_key_named}
-use Rattle.card_core.specs.Prelude.{Admitted, AnswersFor, Effect, FindsConfirmer, HasChanged, IsAnswered, IsAnsweredBy, IsReceiptIn, IsReceipterIn, IsUniqueIn, IsValueIn, KeepsNumber, Registry, Represents, domain_aid, entry_of, held, is_tagged_in, key_of, object_named, object_of, receipt, unconfirmed, unique_data, value_of, with_receipts}
+use Rattle.card_core.specs.Prelude.{Admitted, AnswersFor, Effect, FindsConfirmer, HasChanged, IsAnswered, IsAnsweredBy, IsReceiptIn, IsReceipterIn, IsUniqueIn, IsValueIn, KeepsNumber, Registry, Represents, domain_aid, entry_of, is_tagged_in, key_of, no_confirmation, object_named, object_of, receipt, thing_in, unique_data, value_of, with_receipts}
 use Rattle.card_types.specs.declared.factory.TheConstants.{ISSUER}
 use Rattle.card_types.specs.declared.limits.TheConstants.{RECEIPT_LIMIT}
 use Rattle.card_types.specs.declared.tables.Entry.{Entry}
@@ -15,17 +15,17 @@ use Rattle.card_types.specs.declared.tables.TheConstants.{ISSUER_SLOT}
 use Rattle.policy_slots.proofs.NearestHolder.{slot_named}
 
 -- what a used slot holds
-pub entry_in : (entries : List (Option Entry)) (slot : ℕ) (P : Entry → Type 0) → MatchOption (held entries slot) ⊥ P
-    → (entry : Entry) × (held entries slot ≡ Some entry) × P entry
-entry_in entries slot P is = by (held entries slot) refl is
+pub entry_in : (entries : List (Option Entry)) (slot : ℕ) (P : Entry → Type 0) → MatchOption (thing_in entries slot) ⊥ P
+    → (entry : Entry) × (thing_in entries slot ≡ Some entry) × P entry
+entry_in entries slot P is = by (thing_in entries slot) refl is
   where
-    by : (o : Option Entry) → held entries slot ≡ o → MatchOption o ⊥ P → (entry : Entry) × (held entries slot ≡ Some entry) × P entry
+    by : (o : Option Entry) → thing_in entries slot ≡ o → MatchOption o ⊥ P → (entry : Entry) × (thing_in entries slot ≡ Some entry) × P entry
     by None at is = absurd is
     by (Some entry) at is = (entry, at, is)
 
 -- who confirms a command does so for whichever reason it is delegated
 pub answered_so : (delegated : Type 0) (tables : Tables) (admitted : Admitted) (receipter : Option ℕ) → FindsConfirmer delegated tables admitted receipter
-    → (aids : List (List ℕ)) (changed : Registry) (done : Effect) → IsAnsweredBy receipter admitted aids changed done → IsAnswered delegated admitted aids changed unconfirmed done
+    → (aids : List (List ℕ)) (changed : Registry) (done : Effect) → IsAnsweredBy receipter admitted aids changed done → IsAnswered delegated admitted aids changed no_confirmation done
 answered_so delegated tables admitted None (inl (holds, none)) aids changed done is = inr (λ _. none, is)
 answered_so delegated tables admitted None (inr (lacks, none)) aids changed done is = inr (λ holds. absurd (lacks holds), is)
 answered_so delegated tables admitted (Some slot) (inl (holds, found)) aids changed done is = inl (holds, is)
@@ -40,7 +40,7 @@ finds_receipter delegated tables admitted (Some slot) (inr (lacks, none)) = cc
 
 -- the value of an object of the Issuer Security Domain is the one that it was
 value_before : (before after : List (Option Object))
-    → ((slot : ℕ) (object : Object) → object.owner ≡ ISSUER_SLOT → (held after slot ≡ Some object ↔ held before slot ≡ Some object))
+    → ((slot : ℕ) (object : Object) → object.owner ≡ ISSUER_SLOT → (thing_in after slot ≡ Some object ↔ thing_in before slot ≡ Some object))
     → (tag : ℕ) (value : List ℕ) → IsValueIn after tag value → IsValueIn before tag value
 value_before before after same tag value (inl (slot, object, at, owner, tagged, is)) = inl (slot, object, (same slot object owner).0 at, owner, tagged, is)
 value_before before after same tag value (inr (none, is)) =
@@ -55,7 +55,7 @@ module _ (page : ℕ → List ℕ) (before after : Tables) (domain : ℕ) (recei
   said = admitted.at.registry
 
   -- the Issuer Security Domain was in its slot
-  issuer_before : (entry : Entry) × (held before.entries.items ISSUER_SLOT ≡ Some entry) × (entry.aid ≡ ISSUER)
+  issuer_before : (entry : Entry) × (thing_in before.entries.items ISSUER_SLOT ≡ Some entry) × (entry.aid ≡ ISSUER)
   issuer_before = entry_in before.entries.items ISSUER_SLOT (λ e. e.aid ≡ ISSUER) has.issuer
 
   issuer_aid : domain_aid before.entries.items ISSUER_SLOT ≡ ISSUER
@@ -83,7 +83,7 @@ module _ (page : ℕ → List ℕ) (before after : Tables) (domain : ℕ) (recei
       is.are ∙ (λ i. first i ++ second i)
 
   -- the domain in the slot does
-  pub confirmed : (slot : ℕ) → receipter ≡ Some slot → (entry : Entry) → held after.entries.items slot ≡ Some entry
+  pub confirmed : (slot : ℕ) → receipter ≡ Some slot → (entry : Entry) → thing_in after.entries.items slot ≡ Some entry
       → (left : Tables) → Represents page left (with_receipts changed (domain_aid after.entries.items slot) (entry.receipts + 1))
       → (aids : List (List ℕ)) (body : List ℕ) → IsReceiptIn after slot (entry.receipts + 1) aids body → AnswersFor page left receipter admitted aids changed body
   confirmed slot some entry at left says aids body is =
@@ -96,7 +96,7 @@ module _ (page : ℕ → List ℕ) (before after : Tables) (domain : ℕ) (recei
       domain_aid_is after.entries.items slot other.0 other.1 ∙ other.2 ∙ sym (domain_aid_is before.entries.items slot was.0 was.1) in
       let number : entry.receipts ≡ was.0.receipts = (let one : other.0 ≡ entry = cc in ap (λ (e : Entry). e.receipts) (sym one) ∙ other.3) in
       let key = is.holds in
-      let key_at : held before.keys.items key.slot ≡ Some is.key = has.keeps.keys key.slot is.key key.at in
+      let key_at : thing_in before.keys.items key.slot ≡ Some is.key = has.keeps.keys key.slot is.key key.at in
       let unique = unique_named is.unique is.unique_is in
       rw some (
         with_receipts changed (domain_aid after.entries.items slot) (entry.receipts + 1),

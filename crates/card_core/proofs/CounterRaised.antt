@@ -2,7 +2,7 @@
 use Rattle.std.proofs.Common.{◌≡◌, ℕ, ◌<◌, ◌∙◌, List, true, Some, sym, subst}
 use Rattle.std.specs.Prelude.{slice_set}
 use Rattle.card_types.proofs.DrawnCounter.{drawn_next, drawn_says, drawn_well}
-use Rattle.card_core.specs.Prelude.{AreCards, Contents, HasNextCounter, Raises, Registry, Represents, SameElse, SetsKey, Well, domain_aid, held, keeps_counter, raised, raised_key}
+use Rattle.card_core.specs.Prelude.{AreCards, Contents, HasNextCounter, Raises, Registry, Represents, SameElse, SetsKey, Well, domain_aid, keeps_counter, raised_key, thing_in, with_counter_raised}
 use Rattle.card_types.specs.declared.limits.TheConstants.{COUNTER_LIMIT}
 use Rattle.card_types.specs.declared.tables.KeyRec.{KeyRec}
 use Rattle.card_types.specs.declared.tables.Tables.{Tables}
@@ -12,10 +12,10 @@ some_is : {A : Type 0} (a b : A) → Some a ≡ Some b → a ≡ b
 some_is a b same = cc
 
 module _ {F : Type 0} (old new : Contents F) (same : SameElse old new) (tables : Tables) (is : tables ≡ old.tables) (slot : ℕ) (key : KeyRec)
-    (found : held tables.keys.items slot ≡ Some key) (follows : HasNextCounter tables.keys.items slot)
+    (found : thing_in tables.keys.items slot ≡ Some key) (follows : HasNextCounter tables.keys.items slot)
     (raises : Raises slot old.tables.keys.items new.tables.keys.items) where
-  at : held old.tables.keys.items slot ≡ Some key
-  at = subst (λ (t : Tables). held t.keys.items slot ≡ Some key) is found
+  at : thing_in old.tables.keys.items slot ≡ Some key
+  at = subst (λ (t : Tables). thing_in t.keys.items slot ≡ Some key) is found
 
   next : (keeps_counter key ≡ true) × (key.counter < COUNTER_LIMIT)
   next = drawn_next tables.keys.items slot key found follows
@@ -34,12 +34,12 @@ module _ {F : Type 0} (old new : Contents F) (same : SameElse old new) (tables :
 
   -- the tables say the registry with that counter one higher
   module _ (page : ℕ → List ℕ) (said : Registry) (says : Represents page old.tables said) where
-    pub says_raised : Represents page new.tables (raised said (domain_aid tables.entries.items key.owner) key.version)
+    pub says_raised : Represents page new.tables (with_counter_raised said (domain_aid tables.entries.items key.owner) key.version)
     says_raised =
-        subst (λ (t : Tables). Represents page new.tables (raised said (domain_aid t.entries.items key.owner) key.version)) (sym is)
+        subst (λ (t : Tables). Represents page new.tables (with_counter_raised said (domain_aid t.entries.items key.owner) key.version)) (sym is)
         (drawn_says old.tables new.tables slot key at next.0 set page said says)
 
-    pub raised_well : Well said → Well (raised said (domain_aid tables.entries.items key.owner) key.version)
+    pub raised_well : Well said → Well (with_counter_raised said (domain_aid tables.entries.items key.owner) key.version)
     raised_well well =
-        subst (λ (t : Tables). Well (raised said (domain_aid t.entries.items key.owner) key.version)) (sym is)
+        subst (λ (t : Tables). Well (with_counter_raised said (domain_aid t.entries.items key.owner) key.version)) (sym is)
         (drawn_well old.tables new.tables slot key at next.0 set page said says next.1 well)

@@ -7,7 +7,7 @@ use Rattle.std.proofs.lemmas.Bool.{and_parts, eqb-true}
 use Rattle.std.proofs.lemmas.List.Sorted.{IsPermutation-map, IsPermutation-trans}
 use Rattle.card_types.proofs.Domains.{key_owner_is_used}
 use Rattle.card_types.proofs.Shows.{held_from_used}
-use Rattle.card_core.specs.Prelude.{AreCards, Contents, Deletes, Registry, Represents, SameElse, Well, counter_of, counters_but, domain_aid, has_version, held, is_of, keeps_counter, key_of, keys_but, staying, used}
+use Rattle.card_core.specs.Prelude.{AreCards, Contents, Deletes, Registry, Represents, SameElse, Well, counter_of, counters_but, domain_aid, has_version, is_of, keeps_counter, key_of, keys_but, staying, thing_in, things_in}
 use Rattle.card_types.specs.declared.tables.Entry.{Entry}
 use Rattle.card_types.specs.declared.tables.KeyRec.{KeyRec}
 use Rattle.policy_machine.proofs.DeleteKeyKeeps.{without_version, without_version_ascending, without_version_well}
@@ -19,11 +19,11 @@ module _ {F : Type 0} (old new : Contents F) (same : SameElse old new) (owner ve
     (deletes : Deletes owner version old.tables.keys.items new.tables.keys.items) where
   module _ (page : ℕ → List ℕ) (said : Registry) (says : Represents page old.tables said) where
     -- the registry without the keys
-    pub deleted_says : Well said → (entry : Entry) → held old.tables.entries.items owner ≡ Some entry
+    pub deleted_says : Well said → (entry : Entry) → thing_in old.tables.entries.items owner ≡ Some entry
         → Represents page new.tables (without_version said (domain_aid old.tables.entries.items owner) version)
     deleted_says well entry at =
         let aid = domain_aid old.tables.entries.items owner in
-        let here = used new.tables.keys.items in
+        let here = things_in new.tables.keys.items in
         let stay = staying owner version old.tables.keys.items in
         let ascending = without_version_ascending said aid version says.ascending in
         let keys = IsPermutation-map (key_of old.tables.entries.items) here stay deletes.keys in
@@ -38,20 +38,20 @@ module _ {F : Type 0} (old new : Contents F) (same : SameElse old new) (owner ve
     same_says : new.tables.keys.items ≡ old.tables.keys.items → Represents page new.tables said
     same_says kept =
         keys_said old new same page said says said.keys said.counters
-        (subst (λ (slots : List (Option KeyRec)). IsPermutation (map (key_of old.tables.entries.items) (used slots)) said.keys) (sym kept) says.keys)
-        (subst (λ (slots : List (Option KeyRec)). IsPermutation (map (counter_of old.tables.entries.items) (filter keeps_counter (used slots))) said.counters) (sym kept)
+        (subst (λ (slots : List (Option KeyRec)). IsPermutation (map (key_of old.tables.entries.items) (things_in slots)) said.keys) (sym kept) says.keys)
+        (subst (λ (slots : List (Option KeyRec)). IsPermutation (map (counter_of old.tables.entries.items) (filter keeps_counter (things_in slots))) said.counters) (sym kept)
         says.counters)
         says.ascending.keys says.ascending.counters
 
     -- a domain with keys is in its slot
-    owner_used : Well said → has_version owner version old.tables.keys.items ≡ true → (entry : Entry) × (held old.tables.entries.items owner ≡ Some entry)
+    owner_used : Well said → has_version owner version old.tables.keys.items ≡ true → (entry : Entry) × (thing_in old.tables.entries.items owner ≡ Some entry)
     owner_used well has =
-        let some = there_any (is_of owner version) (used old.tables.keys.items) has in
+        let some = there_any (is_of owner version) (things_in old.tables.keys.items) has in
         let at = held_from_used old.tables.keys.items some.0 some.1 in
         let parts = and_parts (not (version == 0) && some.0.owner == owner) (some.0.version == version) some.2 in
         let own = eqb-true some.0.owner owner (and_parts (not (version == 0)) (some.0.owner == owner) parts.0).1 in
         let domain = key_owner_is_used page old.tables said says well at.0 some.0 at.1 in
-        (domain.0, subst (λ (slot : ℕ). held old.tables.entries.items slot ≡ Some domain.0) own domain.1)
+        (domain.0, subst (λ (slot : ℕ). thing_in old.tables.entries.items slot ≡ Some domain.0) own domain.1)
 
   -- the tables are a card's
   pub deleted_cards : (found : Bool) → found ≡ has_version owner version old.tables.keys.items → OnFalse found (new.tables.keys.items ≡ old.tables.keys.items)

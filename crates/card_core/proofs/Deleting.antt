@@ -5,7 +5,7 @@ use Rattle.std.specs.Option.{option_map}
 use Rattle.card_check.proofs.CardNames.{file_aid_is}
 use Rattle.card_types.proofs.Domains.{loaded_file_is_used}
 use Rattle.card_types.proofs.EntryNames.{entry_in_slot}
-use Rattle.card_core.specs.Prelude.{ActsIn, Admitted, HasIssuer, HasKey, IsAlone, IsIssuerDomain, IsKeyOf, IsReceipterIn, IsRemovable, IsToGoIn, IsUnselected, KeepsAid, KeepsNumber, KeepsReceipts, KeepsSelected, LeavesOthers, MayReceipt, Represents, Well, entry_named, entry_of, file_aid, held}
+use Rattle.card_core.specs.Prelude.{ActsIn, Admitted, HasIssuer, HasKey, IsAlone, IsIssuerDomain, IsKeyOf, IsReceipterIn, IsRemovable, IsToGoIn, IsUnselected, KeepsAid, KeepsNumber, KeepsReceipts, KeepsSelected, LeavesOthers, MayReceipt, Represents, Well, entry_named, entry_of, file_aid, thing_in}
 use Rattle.card_types.specs.Registry as registry
 use Rattle.card_types.specs.declared.factory.TheConstants.{FACTORY_FILE, ISSUER}
 use Rattle.card_types.specs.declared.found.Found.{Found}
@@ -31,7 +31,7 @@ confirmer_stays page tables domain admitted acts related thing alone (Some slot)
 
 -- the Issuer Security Domain is not to go
 module _ (page : ℕ → List ℕ) (tables : Tables) (said : registry.Registry) (says : Represents page tables said) (well : Well said) (issuer : HasIssuer tables.entries.items) where
-  issuer_file : (entry : Entry) → held tables.entries.items ISSUER_SLOT ≡ Some entry → file_aid tables.files.items entry.file ≡ FACTORY_FILE
+  issuer_file : (entry : Entry) → thing_in tables.entries.items ISSUER_SLOT ≡ Some entry → file_aid tables.files.items entry.file ≡ FACTORY_FILE
   issuer_file entry at =
       let own = entry_in tables.entries.items ISSUER_SLOT (λ e. e.aid ≡ ISSUER) issuer in
       let aid : entry.aid ≡ ISSUER = (let one : own.0 ≡ entry = (let here = own.1 in cc) in ap (λ (e : Entry). e.aid) (sym one) ∙ own.2) in
@@ -43,7 +43,7 @@ module _ (page : ℕ → List ℕ) (tables : Tables) (said : registry.Registry) 
   issuer_stays related (Thing.File file) lasting goes =
       let entry = entry_in tables.entries.items ISSUER_SLOT (λ e. e.file ≡ file) goes.1 in
       let loaded = loaded_file_is_used page tables said says well ISSUER_SLOT entry.0 entry.1 in
-      let here : held tables.files.items file ≡ Some loaded.0 = ap (held tables.files.items) (sym entry.2) ∙ loaded.1 in
+      let here : thing_in tables.files.items file ≡ Some loaded.0 = ap (thing_in tables.files.items) (sym entry.2) ∙ loaded.1 in
       let aid : loaded.0.aid ≡ FACTORY_FILE = sym (file_aid_is tables.files.items file loaded.0 here) ∙ ap (file_aid tables.files.items) (sym entry.2) ∙ issuer_file entry.0 entry.1 in
       lasting (ap (option_map (λ (f : LoadFile). f.aid)) here ∙ ap Some aid)
 
@@ -69,9 +69,9 @@ module _ (before after : Tables) (related : Bool) (thing : Found) (leaves : Leav
   -- the domain that may make the receipt still may
   pub deletion_able : (receipter : Option ℕ) → IfSome receipter Stays → IfSome receipter (MayReceipt before) → IfSome receipter (MayReceipt after)
   deletion_able None stays may = tt
-  deletion_able (Some slot) stays may = may_still before after slot (entry_stays slot stays) (λ place. by place (held before.keys.items place) refl) may
+  deletion_able (Some slot) stays may = may_still before after slot (entry_stays slot stays) (λ place. by place (thing_in before.keys.items place) refl) may
     where
-      by : (place : ℕ) (o : Option KeyRec) → held before.keys.items place ≡ o → MatchOption o ⊥ (IsKeyOf slot 0x71 1) → HasKey after.keys.items slot 0x71 1 place
+      by : (place : ℕ) (o : Option KeyRec) → thing_in before.keys.items place ≡ o → MatchOption o ⊥ (IsKeyOf slot 0x71 1) → HasKey after.keys.items slot 0x71 1 place
       by place None at is = absurd is
       by place (Some key) at is =
           subst (λ (o : Option KeyRec). MatchOption o ⊥ (IsKeyOf slot 0x71 1)) (sym ((leaves.keys place key).1 at (subst Stays (sym is.same_owner) stays))) is

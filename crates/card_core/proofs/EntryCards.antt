@@ -6,7 +6,7 @@ use Rattle.std.specs.Option.{option_map}
 use Rattle.std.proofs.lemmas.Bool.{cases_eq}
 use Rattle.std.proofs.lemmas.List.{get_or-set_other, get_or-set_same, length-set}
 use Rattle.std.proofs.lemmas.List.Elements.{All-cons, All-head, All-tail}
-use Rattle.card_core.specs.Prelude.{AddsEntry, AreCards, ChangesEntry, HasIssuer, HasKey, IsInLoadPages, KeepsAids, KeepsNumber, KeepsReceipts, MayReceipt, Moves, Registry, Represents, SetsEntry, Well, held, pages_named, used}
+use Rattle.card_core.specs.Prelude.{AddsEntry, AreCards, ChangesEntry, HasIssuer, HasKey, IsInLoadPages, KeepsAids, KeepsNumber, KeepsReceipts, MayReceipt, Moves, Registry, Represents, SetsEntry, Well, pages_named, thing_in, things_in}
 use Rattle.card_types.proofs.DrawnCounter.{held_within}
 use Rattle.card_types.specs.declared.factory.TheConstants.{ISSUER}
 use Rattle.card_types.specs.declared.found.Found.{Found}
@@ -21,11 +21,11 @@ use Rattle.card_types.specs.declared.tables.TheConstants.{ISSUER_SLOT}
 use Rattle.card_core.proofs.Cards.{AreFiles, IsFactoryIn, cards_from}
 
 module _ (slots : List (Option Entry)) (slot : ℕ) (new : Option Entry) (slots' : List (Option Entry)) (set : slots' ≡ slice_set slots slot new) where
-  still : (other : ℕ) (entry : Entry) → other ≢ slot → held slots other ≡ Some entry → held slots' other ≡ Some entry
-  still other entry apart at = ap (λ (s : List (Option Entry)). held s other) set ∙ get_or-set_other slots slot other new None apart ∙ at
+  still : (other : ℕ) (entry : Entry) → other ≢ slot → thing_in slots other ≡ Some entry → thing_in slots' other ≡ Some entry
+  still other entry apart at = ap (λ (s : List (Option Entry)). thing_in s other) set ∙ get_or-set_other slots slot other new None apart ∙ at
 
-  there : slot < length slots → held slots' slot ≡ new
-  there within = ap (λ (s : List (Option Entry)). held s slot) set ∙ get_or-set_same slots slot new None within
+  there : slot < length slots → thing_in slots' slot ≡ new
+  there within = ap (λ (s : List (Option Entry)). thing_in s slot) set ∙ get_or-set_same slots slot new None within
 
 -- entries alone are others, and each used slot holds an entry with the AID and the receipt number that it had
 pub record KeepsNumbers (before after : Tables) : Type 0 where
@@ -41,9 +41,9 @@ module _ (before after : Tables) (keeps : KeepsNumbers before after) where
   pub receipts_kept : (receipter : Option ℕ) → KeepsReceipts before after receipter
   receipts_kept receipter = record {
     entry = of receipter;
-    keys = λ slot key at. ap (λ (keys : List (Option KeyRec)). held keys slot) (sym keeps.keys) ∙ at;
+    keys = λ slot key at. ap (λ (keys : List (Option KeyRec)). thing_in keys slot) (sym keeps.keys) ∙ at;
     objects = λ slot object owner.
-        (let same = ap (λ (objects : List (Option Object)). held objects slot) keeps.objects in (λ at. sym same ∙ at, λ at. same ∙ at));
+        (let same = ap (λ (objects : List (Option Object)). thing_in objects slot) keeps.objects in (λ at. sym same ∙ at, λ at. same ∙ at));
   }
     where
       of : (receipter : Option ℕ) → IfSome receipter (KeepsNumber before after)
@@ -54,12 +54,12 @@ module _ (before after : Tables) (keeps : KeepsNumbers before after) where
 pub may_still : (before after : Tables) (slot : ℕ) → KeepsNumber before after slot
     → ((place : ℕ) → HasKey before.keys.items slot 0x71 1 place → HasKey after.keys.items slot 0x71 1 place) → MayReceipt before slot → MayReceipt after slot
 may_still before after slot keeps keys may = record {
-  below = by (held before.entries.items slot) refl may.below;
+  below = by (thing_in before.entries.items slot) refl may.below;
   key = (may.key.0, keys may.key.0 may.key.1);
 }
   where
-    by : (o : Option Entry) → held before.entries.items slot ≡ o → MatchOption o ⊥ (λ entry. entry.receipts ≢ RECEIPT_LIMIT)
-        → MatchOption (held after.entries.items slot) ⊥ (λ entry. entry.receipts ≢ RECEIPT_LIMIT)
+    by : (o : Option Entry) → thing_in before.entries.items slot ≡ o → MatchOption o ⊥ (λ entry. entry.receipts ≢ RECEIPT_LIMIT)
+        → MatchOption (thing_in after.entries.items slot) ⊥ (λ entry. entry.receipts ≢ RECEIPT_LIMIT)
     by None at below = absurd below
     by (Some entry) at below =
         (let other = keeps entry at in
@@ -69,7 +69,7 @@ may_still before after slot keeps keys may = record {
 pub adding_keeps : (before after : Tables) (slot : ℕ) (entry : Entry) → AddsEntry before after slot entry → KeepsNumbers before after
 adding_keeps before after slot entry adds = record {
   entries = λ s e at. elim (cases_eq s slot) [
-    | inl same ↦ (let clash : ◌≡◌ {A = Option Entry} (Some e) None = sym at ∙ ap (held before.entries.items) same ∙ adds.free.free in cc)
+    | inl same ↦ (let clash : ◌≡◌ {A = Option Entry} (Some e) None = sym at ∙ ap (thing_in before.entries.items) same ∙ adds.free.free in cc)
     | inr other ↦ (e, still before.entries.items slot (Some entry) after.entries.items adds.set.entries s e other at, refl, refl)
   ];
   keys = adds.set.keys;
@@ -78,15 +78,15 @@ adding_keeps before after slot entry adds = record {
 
 -- an entry is changed in its slot
 module _ (before after : Tables) (slot : ℕ) (change : Entry → Entry) (set : ChangesEntry before after slot change) where
-  changed_or_still : (s : ℕ) (e : Entry) → held before.entries.items s ≡ Some e
-      → (other : Entry) × (held after.entries.items s ≡ Some other) × ((other ≡ change e) ⊎ (other ≡ e))
+  changed_or_still : (s : ℕ) (e : Entry) → thing_in before.entries.items s ≡ Some e
+      → (other : Entry) × (thing_in after.entries.items s ≡ Some other) × ((other ≡ change e) ⊎ (other ≡ e))
   changed_or_still s e at = elim (cases_eq s slot) [
     | inl same ↦
-        (let here : held before.entries.items slot ≡ Some e = ap (held before.entries.items) (sym same) ∙ at in
-        let new : held after.entries.items slot ≡ Some (change e) =
-        there before.entries.items slot (option_map change (held before.entries.items slot)) after.entries.items set.entries (held_within before.entries.items slot e here) ∙ ap (option_map change) here in
-        (change e, ap (held after.entries.items) same ∙ new, inl refl))
-    | inr other ↦ (e, still before.entries.items slot (option_map change (held before.entries.items slot)) after.entries.items set.entries s e other at, inr refl)
+        (let here : thing_in before.entries.items slot ≡ Some e = ap (thing_in before.entries.items) (sym same) ∙ at in
+        let new : thing_in after.entries.items slot ≡ Some (change e) =
+        there before.entries.items slot (option_map change (thing_in before.entries.items slot)) after.entries.items set.entries (held_within before.entries.items slot e here) ∙ ap (option_map change) here in
+        (change e, ap (thing_in after.entries.items) same ∙ new, inl refl))
+    | inr other ↦ (e, still before.entries.items slot (option_map change (thing_in before.entries.items slot)) after.entries.items set.entries s e other at, inr refl)
   ]
 
   -- the entry that is changed has the AID that it had
@@ -127,15 +127,15 @@ pub moving_keeps : (before after : Tables) (thing : Found) (domain : ℕ) → Mo
 moving_keeps before after (found.Entry slot) domain set =
     changing_keeps before after slot (λ entry. record entry { domain = domain }) (λ e. (refl, refl)) set
 moving_keeps before after (found.File slot) domain set = record {
-  entries = λ s e at. (e, ap (λ (slots : List (Option Entry)). held slots s) set.entries ∙ at, refl, refl);
+  entries = λ s e at. (e, ap (λ (slots : List (Option Entry)). thing_in slots s) set.entries ∙ at, refl, refl);
   keys = set.keys;
   objects = set.objects;
 }
 
 issuer_kept : (before after : List (Option Entry)) → KeepsAids before after → HasIssuer before → HasIssuer after
-issuer_kept before after keeps is = by (held before ISSUER_SLOT) refl is
+issuer_kept before after keeps is = by (thing_in before ISSUER_SLOT) refl is
   where
-    by : (o : Option Entry) → held before ISSUER_SLOT ≡ o → MatchOption o ⊥ (λ entry. entry.aid ≡ ISSUER) → HasIssuer after
+    by : (o : Option Entry) → thing_in before ISSUER_SLOT ≡ o → MatchOption o ⊥ (λ entry. entry.aid ≡ ISSUER) → HasIssuer after
     by None at is = absurd is
     by (Some entry) at is =
         (let other = keeps ISSUER_SLOT entry at in
@@ -168,7 +168,7 @@ in_domain domain file = record file { domain = domain }
 
 -- the pages of the files are the same, with one of them in another domain
 pages_alike : (domain : ℕ) (slots : List (Option LoadFile)) (slot : ℕ)
-    → map pages_named (used (slice_set slots slot (option_map (in_domain domain) (held slots slot)))) ≡ map pages_named (used slots)
+    → map pages_named (things_in (slice_set slots slot (option_map (in_domain domain) (thing_in slots slot)))) ≡ map pages_named (things_in slots)
 pages_alike domain [] slot = refl
 pages_alike domain (None ∷ slots) zero = refl
 pages_alike domain (Some file ∷ slots) zero = refl
@@ -176,22 +176,22 @@ pages_alike domain (None ∷ slots) (suc slot) = pages_alike domain slots slot
 pages_alike domain (Some file ∷ slots) (suc slot) = ap (λ rest. pages_named file ∷ rest) (pages_alike domain slots slot)
 
 -- what is so of each file, and of each that goes to another domain
-pub all_still : (P : LoadFile → Type 0) (domain : ℕ) → ((file : LoadFile) → P file → P (in_domain domain file)) → (slots : List (Option LoadFile)) (slot : ℕ) → All P (used slots)
-    → All P (used (slice_set slots slot (option_map (in_domain domain) (held slots slot))))
+pub all_still : (P : LoadFile → Type 0) (domain : ℕ) → ((file : LoadFile) → P file → P (in_domain domain file)) → (slots : List (Option LoadFile)) (slot : ℕ) → All P (things_in slots)
+    → All P (things_in (slice_set slots slot (option_map (in_domain domain) (thing_in slots slot))))
 all_still P domain goes [] slot all = all
 all_still P domain goes (None ∷ slots) zero all = all
 all_still P domain goes (Some file ∷ slots) zero all =
-    All-cons P (in_domain domain file) (used slots) (goes file (All-head P file (used slots) all)) (All-tail P file (used slots) all)
+    All-cons P (in_domain domain file) (things_in slots) (goes file (All-head P file (things_in slots) all)) (All-tail P file (things_in slots) all)
 all_still P domain goes (None ∷ slots) (suc slot) all = all_still P domain goes slots slot all
 all_still P domain goes (Some file ∷ slots) (suc slot) all =
-    All-cons P file (used (slice_set slots slot (option_map (in_domain domain) (held slots slot)))) (All-head P file (used slots) all)
-    (all_still P domain goes slots slot (All-tail P file (used slots) all))
+    All-cons P file (things_in (slice_set slots slot (option_map (in_domain domain) (thing_in slots slot)))) (All-head P file (things_in slots) all)
+    (all_still P domain goes slots slot (All-tail P file (things_in slots) all))
 
-pages_still : (domain : ℕ) (slots : List (Option LoadFile)) (slot : ℕ) → All IsInLoadPages (used slots)
-    → All IsInLoadPages (used (slice_set slots slot (option_map (in_domain domain) (held slots slot))))
+pages_still : (domain : ℕ) (slots : List (Option LoadFile)) (slot : ℕ) → All IsInLoadPages (things_in slots)
+    → All IsInLoadPages (things_in (slice_set slots slot (option_map (in_domain domain) (thing_in slots slot))))
 pages_still domain = all_still IsInLoadPages domain (λ file is. record { size = is.size; pages = is.pages })
 
-factory_still : (domain : ℕ) (slots : List (Option LoadFile)) (slot : ℕ) → IsFactoryIn slots → IsFactoryIn (slice_set slots slot (option_map (in_domain domain) (held slots slot)))
+factory_still : (domain : ℕ) (slots : List (Option LoadFile)) (slot : ℕ) → IsFactoryIn slots → IsFactoryIn (slice_set slots slot (option_map (in_domain domain) (thing_in slots slot)))
 factory_still domain [] slot is = is
 factory_still domain (None ∷ slots) zero is = is
 factory_still domain (Some file ∷ slots) zero is = is
@@ -202,12 +202,12 @@ pub moved_cards : (before after : Tables) (thing : Found) (domain : ℕ) → Mov
     → ((page : ℕ → List ℕ) (said : Registry) → Represents page before said → Well said → (now : Registry) × Represents page after now × Well now)
     → AreCards before → AreCards after
 moved_cards before after (found.Entry slot) domain set each cards =
-    entry_cards before after slot (option_map (λ (entry : Entry). record entry { domain = domain }) (held before.entries.items slot)) set
+    entry_cards before after slot (option_map (λ (entry : Entry). record entry { domain = domain }) (thing_in before.entries.items slot)) set
     (aids_kept before after (moving_keeps before after (found.Entry slot) domain set)) each cards
 moved_cards before after (found.File slot) domain set each cards =
     cards_from before after
     (ap (λ (slots : List (Option Entry)). length slots) set.entries)
-    (ap (λ (slots : List (Option LoadFile)). length slots) set.files ∙ length-set before.files.items slot (option_map (in_domain domain) (held before.files.items slot)))
+    (ap (λ (slots : List (Option LoadFile)). length slots) set.files ∙ length-set before.files.items slot (option_map (in_domain domain) (thing_in before.files.items slot)))
     (ap (λ (slots : List (Option KeyRec)). length slots) set.keys)
     (ap (λ (slots : List (Option Object)). length slots) set.objects)
     (λ issuer. subst HasIssuer (sym set.entries) issuer)

@@ -11,7 +11,7 @@ use Rattle.std.proofs.lemmas.List.Sorted.{All-permutation, IsPermutation-append_
 use Rattle.std.proofs.lemmas.List.Sums.{sum_by-cons}
 use Rattle.std.proofs.lemmas.Map.Keys.{IsDistinct-IsPermutation, IsDistinct-cons, IsDistinct-head, IsDistinct-tail}
 use Rattle.std.proofs.ByRecursion.{All-append}
-use Rattle.card_core.specs.Prelude.{AddsFile, AreCards, AreOwn, HasIssuer, HasPageNumbers, HasPages, IsAid, IsFileAdded, IsFree, IsInLoadPages, NoneHas, Represents, Well, all_pages, file_of, held, is_domain_in, pages_in, pages_named, pages_of, used}
+use Rattle.card_core.specs.Prelude.{AddsFile, AreCards, AreOwn, HasIssuer, HasPageNumbers, HasPages, IsAid, IsFileAdded, IsFree, IsInLoadPages, NoneHas, Represents, Well, all_pages, file_of, is_domain_in, pages_in, pages_named, pages_of, thing_in, things_in}
 use Rattle.card_types.proofs.AddedThing.{file_added_keeps}
 use Rattle.card_types.proofs.ChangedSlot.{set_shown}
 use Rattle.card_types.proofs.FoundNames.{none_found_none_named}
@@ -32,7 +32,7 @@ use Rattle.card_core.proofs.SomeAdmitted.{domain_named}
 -- a file joins, and entries, keys and data objects stay
 pub joining_keeps : (before after : Tables) (slot : ℕ) (file : LoadFile) → AddsFile before after slot file → KeepsNumbers before after
 joining_keeps before after slot file adds = record {
-  entries = λ s e at. (e, ap (λ (slots : List (Option Entry)). held slots s) adds.set.entries ∙ at, refl, refl);
+  entries = λ s e at. (e, ap (λ (slots : List (Option Entry)). thing_in slots s) adds.set.entries ∙ at, refl, refl);
   keys = adds.set.keys;
   objects = adds.set.objects;
 }
@@ -60,7 +60,7 @@ module _ (tables : Tables) where
   distinct_joined (page ∷ rest) apart free others =
       IsDistinct-cons nat_eq page (rest ++ all_pages tables.files.items)
       (All-append (λ y. nat_eq page y ≡ false) rest (all_pages tables.files.items) (IsDistinct-head nat_eq page rest apart)
-      (other_than_named page (used tables.files.items) (All-head (IsFree tables) page rest free)))
+      (other_than_named page (things_in tables.files.items) (All-head (IsFree tables) page rest free)))
       (distinct_joined rest (IsDistinct-tail nat_eq page rest apart) (All-tail (IsFree tables) page rest free) others)
 
 abbrev IsFactory : Option LoadFile → Type 0
@@ -68,7 +68,7 @@ IsFactory slot = MatchOption slot ⊥ (λ file. (file.aid ≡ FACTORY_FILE) × (
 
 module _ (file : LoadFile) where
   -- the pages of the files are those that they were, and those of the new one
-  pages_joined : (slots : List (Option LoadFile)) (slot : ℕ) → slot < length slots → held slots slot ≡ None
+  pages_joined : (slots : List (Option LoadFile)) (slot : ℕ) → slot < length slots → thing_in slots slot ≡ None
       → IsPermutation (pages_named file ++ all_pages slots) (all_pages (slice_set slots slot (Some file)))
   pages_joined [] slot within free = absurd (omega (arith, within))
   pages_joined (None ∷ slots) zero within free = IsPermutation-refl (pages_named file ++ all_pages slots)
@@ -84,18 +84,18 @@ module _ (file : LoadFile) where
 
   module _ (before after : Tables) (slot : ℕ) (adds : AddsFile before after slot file) where
     -- the files are those that they were, and the new one
-    files_joined : IsPermutation (file ∷ used before.files.items) (used after.files.items)
+    files_joined : IsPermutation (file ∷ things_in before.files.items) (things_in after.files.items)
     files_joined =
-        subst (λ (slots : List (Option LoadFile)). IsPermutation (file ∷ used before.files.items) (used slots)) (sym adds.set.files)
+        subst (λ (slots : List (Option LoadFile)). IsPermutation (file ∷ things_in before.files.items) (things_in slots)) (sym adds.set.files)
         (rw adds.free.free at (set_shown (λ (thing : Option LoadFile). thing) before.files.items slot (Some file) adds.free.within))
 
     -- the files stand as a card's do
     files_stand : IsInLoadPages file → AreOwn before (pages_named file) → AreFiles before.files.items → AreFiles after.files.items
     files_stand is own are = record {
       factory = subst IsFactoryIn (sym adds.set.files)
-          (subst IsFactory (sym (get_or-set_other before.files.items slot 0 (Some file) None (λ first. subst IsFactory (ap (held before.files.items) first ∙ adds.free.free) are.factory)))
+          (subst IsFactory (sym (get_or-set_other before.files.items slot 0 (Some file) None (λ first. subst IsFactory (ap (thing_in before.files.items) first ∙ adds.free.free) are.factory)))
           are.factory);
-      pages = All-permutation IsInLoadPages _ (used after.files.items) files_joined (All-cons IsInLoadPages file (used before.files.items) is are.pages);
+      pages = All-permutation IsInLoadPages _ (things_in after.files.items) files_joined (All-cons IsInLoadPages file (things_in before.files.items) is are.pages);
       apart = IsDistinct-IsPermutation nat_eq (λ x y. grind (arith, nat_tests)) _ (all_pages after.files.items)
           (subst (λ (slots : List (Option LoadFile)). IsPermutation (pages_named file ++ all_pages before.files.items) (all_pages slots)) (sym adds.set.files)
           (pages_joined before.files.items slot adds.free.within adds.free.free))
@@ -127,8 +127,8 @@ module _ (before after : Tables) (slot : ℕ) (file : LoadFile) (adds : AddsFile
       let room = file_room page before said says slot adds.free.within adds.free.free in
       let slots = (in_order before cards).layout.files in
       let long = as_long page whole before.entries.items file array is.size in
-      let counted = sum_by-IsPermutation (λ (f : registry.LoadFile). pages_of (length f.bytes)) (map view (used before.files.items)) said.files says.files in
-      let fewer = pages_at_most page before.entries.items (used before.files.items) in
+      let counted = sum_by-IsPermutation (λ (f : registry.LoadFile). pages_of (length f.bytes)) (map view (things_in before.files.items)) said.files says.files in
+      let fewer = pages_at_most page before.entries.items (things_in before.files.items) in
       (file_added_keeps (view file) said now (record { well = well; ascending = says.ascending }) (record {
         aid = aid;
         free = record { no_entry = unnamed.0; no_file = unnamed.1 };

@@ -2,15 +2,15 @@
 use Rattle.std.proofs.Common.{◌≡◌, ℕ, List, length, ap, ◌∙◌}
 use Rattle.std.specs.Prelude.{Option, filter, map}
 use Rattle.std.specs.List.Sorted.{IsPermutation, IsStrictlySortedBy}
-use Rattle.card_core.specs.Prelude.{AreCards, Contents, Counter, Key, Registry, Represents, SameElse, Well, counter_of, counter_order, keeps_counter, key_of, key_order, used, with_keys}
+use Rattle.card_core.specs.Prelude.{AreCards, Contents, Counter, Key, Registry, Represents, SameElse, Well, counter_of, counter_order, keeps_counter, key_of, key_order, things_in, with_keys}
 use Rattle.card_types.specs.declared.tables.Object.{Object}
 use Rattle.card_core.proofs.Cards.{cards_after}
 
 module _ {F : Type 0} (old new : Contents F) (same : SameElse old new) where
   -- the registry with these keys and sequence counters
   pub keys_said : (page : ℕ → List ℕ) (said : Registry) → Represents page old.tables said → (keys : List Key) (counters : List Counter)
-      → IsPermutation (map (key_of old.tables.entries.items) (used new.tables.keys.items)) keys
-      → IsPermutation (map (counter_of old.tables.entries.items) (filter keeps_counter (used new.tables.keys.items))) counters
+      → IsPermutation (map (key_of old.tables.entries.items) (things_in new.tables.keys.items)) keys
+      → IsPermutation (map (counter_of old.tables.entries.items) (filter keeps_counter (things_in new.tables.keys.items))) counters
       → IsStrictlySortedBy key_order keys → IsStrictlySortedBy counter_order counters → Represents page new.tables (with_keys said keys counters)
   keys_said page said says keys counters keys_are counters_are keys_rise counters_rise = record {
     life = same.life ∙ says.life;

@@ -4,7 +4,7 @@ use Rattle.std.specs.Prelude.{filter, map, ◌==◌}
 use Rattle.std.proofs.lemmas.Bool.Decides.{eqb_tells}
 use Rattle.std.proofs.lemmas.List.{map-append}
 use Rattle.bertlv.proofs.SpellingLemmas.{elements_more}
-use Rattle.card_core.specs.Prelude.{AreElements, IsKeyInformation, IsLeast, NoneFits, Represents, Spelling, Well, domain_aid, follows, held, is_past, key_information, key_of, name_order}
+use Rattle.card_core.specs.Prelude.{AreElements, IsKeyInformation, IsLeast, NoneFits, Represents, Spelling, Well, domain_aid, follows, is_past, key_information, key_of, name_order, thing_in}
 use Rattle.card_types.specs.Registry as registry
 use Rattle.card_types.specs.declared.limits.TheConstants.{DOMAIN_KEYS}
 use Rattle.card_types.specs.declared.tables.Entry.{Entry}
@@ -33,7 +33,7 @@ cons_not_nil [] x ys same = cc
 cons_not_nil (y ∷ xs) x ys same = cc
 
 module _ (page : ℕ → List ℕ) (tables : Tables) (said : registry.Registry) (says : Represents page tables said) (well : Well said)
-    (owner : ℕ) (entry : Entry) (at : held tables.entries.items owner ≡ Some entry) where
+    (owner : ℕ) (entry : Entry) (at : thing_in tables.entries.items owner ≡ Some entry) where
   abbrev aid : List ℕ
   aid = domain_aid tables.entries.items owner
 

@@ -3,7 +3,7 @@ use Rattle.std.proofs.Common.{◌≡◌, ℕ, ◌<◌, List, [], Option, Result,
 use Rattle.std.specs.Prelude.{None, OnErr, slice_index_or}
 use Rattle.apdu_core.specs.declared.reply.Status.{Status}
 use Rattle.card_types.specs.declared.tables.Tables.{Tables}
-use Rattle.card_core.specs.Prelude.{Admitted, CarriesOutBut, Channel, Contents, IsSound, Kept, KeptRepresents, LoadsAs, RepresentsSecureChannel, held_on, kept_of, loaded, secure_channel_of}
+use Rattle.card_core.specs.Prelude.{Admitted, CarriesOutBut, Channel, Contents, IsSound, Kept, KeptRepresents, LoadsAs, RepresentsSecureChannel, held_on, kept_of, pages_after, secure_channel_of}
 use Rattle.policy_machine.specs.declared.channels.TheConstants.{CHANNELS}
 use Rattle.policy_machine.specs.declared.rule.Rule.{Rule}
 use Rattle.card_core.proofs.Carrying.{refusal_shows}
@@ -18,10 +18,10 @@ begin_left page tables channels channels' (Err rule) same = (refl, ap (kept_of t
 
 pub load_left : {F : Type 0} (page : ℕ → List ℕ) (records records' : Contents F) (channels channels' : Channels) (result : Result Status Rule) → channels.loading.writes.items ≡ []
     → OnErr result ((records' ≡ records) × (channels' ≡ channels))
-    → OnErr result ((loaded page channels'.loading.writes.items ≡ page) × (kept_of records'.tables channels' ≡ kept_of records.tables channels))
+    → OnErr result ((pages_after page channels'.loading.writes.items ≡ page) × (kept_of records'.tables channels' ≡ kept_of records.tables channels))
 load_left page records records' channels channels' (Ok status) unwritten same = same
 load_left {F} page records records' channels channels' (Err rule) unwritten same = (
-  ap (λ (c : Channels). loaded page c.loading.writes.items) same.1 ∙ ap (loaded page) unwritten,
+  ap (λ (c : Channels). pages_after page c.loading.writes.items) same.1 ∙ ap (pages_after page) unwritten,
   ap (λ (r : Contents F). kept_of r.tables channels') same.0 ∙ ap (kept_of records.tables) same.1,
 )
 

@@ -1,7 +1,7 @@
 -- What is so of the load session that a card keeps, by some state that it stands for.
 use Rattle.std.proofs.Common.{◌≡◌, ℕ, ◌+◌, ◌≤◌, List, Bool, true, Option, None, Some, sym, ap, subst, ◌∙◌, length, arith}
 use Rattle.std.specs.Prelude.{MatchOption, drop, unwrap_or}
-use Rattle.card_core.specs.Prelude.{AreFree, AreNewPages, Block, BringsBytes, HasPages, IsBlockTaken, IsDomainNamed, IsLoadNamed, IsWellLoad, LoadSession, NoneFree, NoneHas, RepresentsAfter, RepresentsLoad, RepresentsLoading, RepresentsSome, block_in, entry_named, file_named, is_domain_held, is_domain_in, len_of, load_aid, load_slot, loaded, pages_in, pages_of, with_block}
+use Rattle.card_core.specs.Prelude.{AreFree, AreNewPages, Block, BringsBytes, HasPages, IsBlockTaken, IsDomainNamed, IsLoadNamed, IsWellLoad, LoadSession, NoneFree, NoneHas, RepresentsAfter, RepresentsLoad, RepresentsLoading, RepresentsSome, block_in, entry_named, file_named, is_domain_held, is_domain_in, len_of, load_aid, load_slot, pages_after, pages_in, pages_of, with_block}
 use Rattle.card_types.proofs.Domains.{domain_named_is_used}
 use Rattle.card_types.proofs.FoundNames.{found_entry_named, found_file_named}
 use Rattle.card_types.proofs.Room.{no_file_room}
@@ -32,11 +32,11 @@ pub record IsHeld (tables : Tables) (kept : Kept) : Type 0 where
 module _ (tables : Tables) (kept after : Kept) (held : IsHeld tables kept) (request : LoadRequest) (taken : Taken) (brought : IsBlockTaken tables kept (block_in request) taken)
     (writes : List LoadWrite) (last : request.last ≡ true)
     (stands : (page : ℕ → List ℕ) (load : LoadSession) → HasPages page → RepresentsLoad page tables kept load
-    → RepresentsAfter request.last (loaded page writes) tables after (with_block load taken.size (drop taken.start request.block.now))) where
+    → RepresentsAfter request.last (pages_after page writes) tables after (with_block load taken.size (drop taken.start request.block.now))) where
   len_last : len_of after ≡ taken.size
   len_last =
       let next = with_block held.load taken.size (drop taken.start request.block.now) in
-      let whole = subst (λ (b : Bool). RepresentsAfter b (loaded held.page writes) tables after next) last (stands held.page held.load held.whole held.stands) in
+      let whole = subst (λ (b : Bool). RepresentsAfter b (pages_after held.page writes) tables after next) last (stands held.page held.load held.whole held.stands) in
       ap (λ (announced : Option ℕ). unwrap_or announced 0) whole.of.announced
 
   pub some_last : 1 ≤ len_of after

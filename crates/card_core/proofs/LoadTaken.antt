@@ -4,7 +4,7 @@ use Rattle.std.specs.Prelude.{All, drop, if◌then◌else◌}
 use Rattle.std.specs.Result.{IsErrAnd}
 use Rattle.std.proofs.lemmas.Bool.{eq-eqb}
 use Rattle.apdu_core.specs.declared.reply.Status.{Status}
-use Rattle.card_core.specs.Prelude.{ActsIn, AddsLoaded, Admitted, AnswersFor, Block, BringsBytes, Effect, EndsLoad, FindsConfirmer, GoesOn, HasEffect, Holds, IsAnswered, IsAnsweredBy, IsBlockTaken, IsFileAdded, IsFirst, IsForBlock, IsFree, IsLoadNamed, IsLoaded, KeepsAids, LoadFails, LoadSession, LoadsAs, Represents, RepresentsLoad, RepresentsLoading, RepresentsState, State, TakesCommand, Volatile, block_in, block_of, delegated_management, domain_aid, file_of, file_of_load, leaves, live_with_block, live_without_load, load_rules, load_without_channel, loaded, loading, numbers, unconfirmed, with_block, without_load}
+use Rattle.card_core.specs.Prelude.{ActsIn, AddsLoaded, Admitted, AnswersFor, Block, BringsBytes, Effect, EndsLoad, FindsConfirmer, HasEffect, Holds, IsAnswered, IsAnsweredBy, IsBlockTaken, IsFileAdded, IsFirst, IsForBlock, IsFree, IsLoadNamed, IsLoaded, KeepsAids, LoadFails, LoadGoesOn, LoadSession, LoadsAs, Represents, RepresentsLoad, RepresentsLoading, RepresentsState, State, TakesCommand, Volatile, block_in, block_of, delegated_management, domain_aid, file_of, file_of_load, leaves, live_with_block, live_without_load, load_rules, load_without_channel, loading, no_confirmation, numbers, pages_after, with_block, without_load}
 use Rattle.card_types.specs.Registry.{LoadFile as File, Registry}
 use Rattle.card_types.specs.declared.tables.LoadFile.{LoadFile}
 use Rattle.card_types.specs.declared.tables.Tables.{Tables}
@@ -59,7 +59,7 @@ module _ (page : ℕ → List ℕ) (tables : Tables) (live : Live) (kept : Kept)
   next = with_block load taken.size (drop taken.start request.block.now)
 
   abbrev page_then : ℕ → List ℕ
-  page_then = loaded page writes
+  page_then = pages_after page writes
 
   brings : BringsBytes load.announced (block_of admitted.command) taken.size (drop taken.start request.block.now)
   brings =
@@ -74,7 +74,7 @@ module _ (page : ℕ → List ℕ) (tables : Tables) (live : Live) (kept : Kept)
   says_then = record { registry = said_then; selected = says.selected; places = says.places; load = says.load }
 
   -- the block is counted, and its bytes go behind those that came
-  counts : (done : Effect) → GoesOn admitted next done ⊎ EndsLoad admitted next done → done.status ≡ 0x9000 → HasEffect admitted done
+  counts : (done : Effect) → LoadGoesOn admitted next done ⊎ EndsLoad admitted next done → done.status ≡ 0x9000 → HasEffect admitted done
   counts done ends word = does_so loading listed admitted takes done (record {
     load = load;
     on = (load_on page tables kept name domain request admitted is_for).on;
@@ -137,7 +137,7 @@ module _ (page : ℕ → List ℕ) (tables : Tables) (live : Live) (kept : Kept)
         let state : State = record { registry = left; volatile = volatile } in
         let done : Effect = record { state = state; body = body; status = 0x9000 } in
         let delegated = Holds admitted delegated_management in
-        let answered : IsAnswered delegated admitted things added.0 unconfirmed done =
+        let answered : IsAnswered delegated admitted things added.0 no_confirmation done =
         answered_so delegated tables admitted receipter finds things added.0 done (answered_with receipter admitted things added.0 left body volatile added.2.2) in
         let still = says_kept page_then tables tables' live admitted.at (aids_selected live tables.entries.items tables'.entries.items aids) left admitted.at.volatile is_for.sound
         added.2.1 refl says_then in

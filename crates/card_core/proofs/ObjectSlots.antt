@@ -7,7 +7,7 @@ use Rattle.std.proofs.lemmas.Bool.{and_parts, cases_eq, eq-eqb, eqb-true, false_
 use Rattle.std.proofs.lemmas.List.{get_or-set_same, length-set}
 use Rattle.std.proofs.lemmas.List.Folds.{list_any_at}
 use Rattle.std.proofs.lemmas.List.Sorted.{length_permutation, list_any-IsPermutation}
-use Rattle.card_core.specs.Prelude.{Element, IsSlotFor, NoneFits, has_object_in, has_tag_in, held, is_tagged_in, new_tags, object_with, used}
+use Rattle.card_core.specs.Prelude.{Element, IsSlotFor, NoneFits, has_object_in, has_tag_in, is_tagged_in, new_tags, object_with, thing_in, things_in}
 use Rattle.card_types.proofs.ChangedSlot.{set_shown}
 use Rattle.card_types.specs.declared.limits.TheConstants.{OBJECTS}
 use Rattle.card_types.specs.declared.tables.Object.{Object}
@@ -28,11 +28,11 @@ module _ (slots : List (Option Object)) (owner tag : ℕ) (value : List ℕ) (sl
   within : slot < length slots
   within = (let low = is.within in omega (arith, low, all))
 
-  moved : IsPermutation (object_with owner tag value ∷ used slots) (cons_option (held slots slot) (used after))
+  moved : IsPermutation (object_with owner tag value ∷ things_in slots) (cons_option (thing_in slots slot) (things_in after))
   moved = set_shown (λ (o : Option Object). o) slots slot (Some (object_with owner tag value)) within
 
   -- the slot has such an object, or the domain has none
-  pub found_in : is_tagged_in owner tag (held slots slot) ≡ true → has_object_in slots owner tag ≡ true
+  pub found_in : is_tagged_in owner tag (thing_in slots slot) ≡ true → has_object_in slots owner tag ≡ true
   found_in tagged = list_any_at (is_tagged_in owner tag) slots slot None within tagged
 
   -- the object's own tag is there then
@@ -46,10 +46,10 @@ module _ (slots : List (Option Object)) (owner tag : ℕ) (value : List ℕ) (sl
   other_tag : (other : ℕ) → (tag ≡ other → ⊥) → has_object_in after owner other ≡ has_object_in slots owner other
   other_tag other differs =
       let P = λ (thing : Object). is_tagged_in owner other (Some thing) in
-      let both = list_any-IsPermutation P (object_with owner tag value ∷ used slots) (cons_option (held slots slot) (used after)) moved in
+      let both = list_any-IsPermutation P (object_with owner tag value ∷ things_in slots) (cons_option (thing_in slots slot) (things_in after)) moved in
       let first : P (object_with owner tag value) ≡ false = by_tag owner tag (ne_eqb tag other differs) in
-      let before : list_any P (object_with owner tag value ∷ used slots) ≡ list_any P (used slots) = ap (λ (b : Bool). b || list_any P (used slots)) first in
-      any_used (is_tagged_in owner other) (λ thing. is_tagged_in owner other (Some thing)) refl (λ thing. refl) after ∙ sym (behind (held slots slot) refl) ∙ sym both ∙ before ∙ sym (any_used (is_tagged_in owner other) (λ thing. is_tagged_in owner other (Some thing)) refl (λ thing. refl) slots)
+      let before : list_any P (object_with owner tag value ∷ things_in slots) ≡ list_any P (things_in slots) = ap (λ (b : Bool). b || list_any P (things_in slots)) first in
+      any_used (is_tagged_in owner other) (λ thing. is_tagged_in owner other (Some thing)) refl (λ thing. refl) after ∙ sym (behind (thing_in slots slot) refl) ∙ sym both ∙ before ∙ sym (any_used (is_tagged_in owner other) (λ thing. is_tagged_in owner other (Some thing)) refl (λ thing. refl) slots)
     where
       by_tag : (o t : ℕ) → (t == other) ≡ false → (o == owner && t == other) ≡ false
       by_tag o t is_other = ap (λ (b : Bool). o == owner && b) is_other ∙ none (o == owner)
@@ -58,8 +58,8 @@ module _ (slots : List (Option Object)) (owner tag : ℕ) (value : List ℕ) (sl
           none true = refl
           none false = refl
 
-      behind : (o : Option Object) → held slots slot ≡ o
-          → list_any (λ thing. is_tagged_in owner other (Some thing)) (cons_option o (used after)) ≡ list_any (λ thing. is_tagged_in owner other (Some thing)) (used after)
+      behind : (o : Option Object) → thing_in slots slot ≡ o
+          → list_any (λ thing. is_tagged_in owner other (Some thing)) (cons_option o (things_in after)) ≡ list_any (λ thing. is_tagged_in owner other (Some thing)) (things_in after)
       behind None at = refl
       behind (Some gone) at = elim is.takes [
         | inl tagged ↦
@@ -67,7 +67,7 @@ module _ (slots : List (Option Object)) (owner tag : ℕ) (value : List ℕ) (sl
             let parts = and_parts (gone.owner == owner) (gone.tag == tag) here in
             let tags = eqb-true gone.tag tag parts.1 in
             let out = by_tag gone.owner gone.tag (ne_eqb gone.tag other (λ same. differs (sym tags ∙ same))) in
-            ap (λ (b : Bool). b || list_any (λ thing. is_tagged_in owner other (Some thing)) (used after)) out)
+            ap (λ (b : Bool). b || list_any (λ thing. is_tagged_in owner other (Some thing)) (things_in after)) out)
         | inr free ↦ (let clash = sym at ∙ free.0 in cc)
       ]
 
@@ -79,13 +79,13 @@ module _ (slots : List (Option Object)) (owner tag : ℕ) (value : List ℕ) (sl
   ]
 
   -- one more slot is used where the domain had no such object
-  pub number_after : length (used after) ≡ length (used slots) + count_if (not (has_object_in slots owner tag))
+  pub number_after : length (things_in after) ≡ length (things_in slots) + count_if (not (has_object_in slots owner tag))
   number_after =
-      let long = length_permutation (object_with owner tag value ∷ used slots) (cons_option (held slots slot) (used after)) moved in
-      by (held slots slot) refl long
+      let long = length_permutation (object_with owner tag value ∷ things_in slots) (cons_option (thing_in slots slot) (things_in after)) moved in
+      by (thing_in slots slot) refl long
     where
-      by : (o : Option Object) → held slots slot ≡ o → length (cons_option o (used after)) ≡ length (object_with owner tag value ∷ used slots)
-          → length (used after) ≡ length (used slots) + count_if (not (has_object_in slots owner tag))
+      by : (o : Option Object) → thing_in slots slot ≡ o → length (cons_option o (things_in after)) ≡ length (object_with owner tag value ∷ things_in slots)
+          → length (things_in after) ≡ length (things_in slots) + count_if (not (has_object_in slots owner tag))
       by None at long = elim is.takes [
         | inl tagged ↦ (let clash = ap (is_tagged_in owner tag) (sym at) ∙ tagged in cc)
         | inr free ↦ (let one = ap (λ (b : Bool). count_if (not b)) free.1 in omega (arith, one, long))
@@ -103,8 +103,8 @@ tags_alike there also same (element ∷ elements) =
 
 -- the room for what is still to be put is the same after the first is put
 pub room_after : (slots : List (Option Object)) (owner : ℕ) (element : Element) (elements : List Element) (slot : ℕ) → length slots ≡ OBJECTS
-    → IsSlotFor slots owner element.tag slot → length (used slots) + new_tags (has_object_in slots owner) (element ∷ elements) ≤ OBJECTS
-    → length (used (slice_set slots slot (Some (object_with owner element.tag element.value))))
+    → IsSlotFor slots owner element.tag slot → length (things_in slots) + new_tags (has_object_in slots owner) (element ∷ elements) ≤ OBJECTS
+    → length (things_in (slice_set slots slot (Some (object_with owner element.tag element.value))))
     + new_tags (has_object_in (slice_set slots slot (Some (object_with owner element.tag element.value))) owner) elements ≤ OBJECTS
 room_after slots owner element elements slot all is room =
     let after = slice_set slots slot (Some (object_with owner element.tag element.value)) in
@@ -115,8 +115,8 @@ room_after slots owner element elements slot all is room =
 
 -- there is room for a first element whose tag is new
 pub room_first : (slots : List (Option Object)) (owner : ℕ) (element : Element) (elements : List Element)
-    → length (used slots) + new_tags (has_object_in slots owner) (element ∷ elements) ≤ OBJECTS
-    → has_object_in slots owner element.tag ≡ false → length (used slots) < OBJECTS
+    → length (things_in slots) + new_tags (has_object_in slots owner) (element ∷ elements) ≤ OBJECTS
+    → has_object_in slots owner element.tag ≡ false → length (things_in slots) < OBJECTS
 room_first slots owner element elements room new =
     let first = first_new (has_object_in slots owner) element elements in
     let one = ap (λ (b : Bool). count_if (not b)) new in

@@ -6,7 +6,7 @@ use Rattle.std.proofs.lemmas.Bool.{and_parts, eqb-true}
 use Rattle.std.proofs.lemmas.List.{length-map, length-set}
 use Rattle.std.proofs.lemmas.List.Elements.{All-cons, All-filter, All-head, All-tail}
 use Rattle.std.proofs.lemmas.List.Sorted.{All-permutation, IsPermutation-refl, length_permutation}
-use Rattle.card_core.specs.Prelude.{AreCards, Element, IsArranged, IsChanged, IsDomainNamed, IsObject, IsWellObject, PutsObject, Represents, SetsObject, Well, domain_aid, has_object_in, held, is_domain_held, is_domain_in, is_object_of, is_tagged_in, new_tags, object_of, object_order, object_with, used, with_data, with_object, with_objects}
+use Rattle.card_core.specs.Prelude.{AreCards, Element, IsArranged, IsChanged, IsDomainNamed, IsObject, IsWellObject, PutsObject, Represents, SetsObject, Well, domain_aid, has_object_in, is_domain_held, is_domain_in, is_object_of, is_tagged_in, new_tags, object_of, object_order, object_with, thing_in, things_in, with_data, with_object, with_objects}
 use Rattle.card_types.proofs.ChangedKeys.{object_changed}
 use Rattle.card_types.proofs.Domains.{domain_aid_is}
 use Rattle.card_types.proofs.EntryNames.{entry_in_slot}
@@ -55,13 +55,13 @@ pub record SaysPart (page : ℕ → List ℕ) (now : Tables) (said : registry.Re
 -- some of the elements are put, and these are after them
 pub record ArePut (before now : Tables) (domain : ℕ) (elements behind : List Element) : Type 0 where
   pub forms : All (λ element. IsObject element.tag (length element.value)) behind
-  pub room : length (used now.objects.items) + new_tags (has_object_in now.objects.items domain) behind ≤ OBJECTS
+  pub room : length (things_in now.objects.items) + new_tags (has_object_in now.objects.items domain) behind ≤ OBJECTS
   pub shows : (page : ℕ → List ℕ) (said : registry.Registry) → Represents page before said → Well said
       → SaysPart page now said (domain_aid before.entries.items domain) elements behind
 
 -- at first none is
 pub none_put : (tables : Tables) (domain : ℕ) (elements : List Element) → All (λ element. IsObject element.tag (length element.value)) elements
-    → length (used tables.objects.items) + new_tags (has_object_in tables.objects.items domain) elements ≤ OBJECTS → ArePut tables tables domain elements elements
+    → length (things_in tables.objects.items) + new_tags (has_object_in tables.objects.items domain) elements ≤ OBJECTS → ArePut tables tables domain elements elements
 none_put tables domain elements forms room = record {
   forms = forms;
   room = room;
@@ -77,19 +77,19 @@ none_put tables domain elements forms room = record {
 
 -- the registry is one that a card may have
 pub part_well : (page : ℕ → List ℕ) (now : Tables) (said : registry.Registry) (owner : List ℕ) (elements behind : List Element) → Well said
-    → length (used now.objects.items) ≤ OBJECTS → (part : SaysPart page now said owner elements behind) → Well (with_data said part.objects)
+    → length (things_in now.objects.items) ≤ OBJECTS → (part : SaysPart page now said owner elements behind) → Well (with_data said part.objects)
 part_well page now said owner elements behind well few part =
-    let number = length_permutation (map (object_of now.entries.items) (used now.objects.items)) part.objects part.says.objects in
-    data_well said part.objects well (omega (arith, number, few, length-map (used now.objects.items) (object_of now.entries.items)))
+    let number = length_permutation (map (object_of now.entries.items) (things_in now.objects.items)) part.objects part.says.objects in
+    data_well said part.objects well (omega (arith, number, few, length-map (things_in now.objects.items) (object_of now.entries.items)))
     (All-permutation (IsWellObject said) part.things part.objects part.arranged.same part.each)
 
 -- the entry of a domain in its slot
 pub domain_entry : (tables : Tables) (domain : ℕ) → is_domain_in tables.entries.items domain ≡ true
-    → (entry : Entry) × (held tables.entries.items domain ≡ Some entry) × (is_domain_held (Some entry) ≡ true)
-domain_entry tables domain is = by (held tables.entries.items domain) refl is
+    → (entry : Entry) × (thing_in tables.entries.items domain ≡ Some entry) × (is_domain_held (Some entry) ≡ true)
+domain_entry tables domain is = by (thing_in tables.entries.items domain) refl is
   where
-    by : (o : Option Entry) → held tables.entries.items domain ≡ o → is_domain_held o ≡ true
-        → (entry : Entry) × (held tables.entries.items domain ≡ Some entry) × (is_domain_held (Some entry) ≡ true)
+    by : (o : Option Entry) → thing_in tables.entries.items domain ≡ o → is_domain_held o ≡ true
+        → (entry : Entry) × (thing_in tables.entries.items domain ≡ Some entry) × (is_domain_held (Some entry) ≡ true)
     by None at is = cc
     by (Some entry) at is = (entry, at, is)
 
@@ -105,10 +105,10 @@ module _ (before now after : Tables) (domain : ℕ) (is_domain : is_domain_in be
     (all : length before.objects.items ≡ OBJECTS) (element : Element) (puts : PutsObject now after domain element.tag element.value) where
   -- the slot shows the object of that tag, if there is one
   shown_before : (page : ℕ → List ℕ) (said : registry.Registry) → Represents page now said → Well said
-      → option_map (object_of now.entries.items) (held now.objects.items puts.slot) ≡ find (is_object_of (domain_aid now.entries.items domain) element.tag) said.objects
-  shown_before page said says well = by (held now.objects.items puts.slot) refl
+      → option_map (object_of now.entries.items) (thing_in now.objects.items puts.slot) ≡ find (is_object_of (domain_aid now.entries.items domain) element.tag) said.objects
+  shown_before page said says well = by (thing_in now.objects.items puts.slot) refl
     where
-      by : (o : Option Object) → held now.objects.items puts.slot ≡ o
+      by : (o : Option Object) → thing_in now.objects.items puts.slot ≡ o
           → option_map (object_of now.entries.items) o ≡ find (is_object_of (domain_aid now.entries.items domain) element.tag) said.objects
       by None at = elim puts.is_for.takes [
         | inl tagged ↦ (let clash = ap (is_tagged_in domain element.tag) (sym at) ∙ tagged in cc)
@@ -127,7 +127,7 @@ module _ (before now after : Tables) (domain : ℕ) (is_domain : is_domain_in be
       ]
 
   module _ (elements behind : List Element) (put : ArePut before now domain elements (element ∷ behind)) where
-    few : length (used now.objects.items) ≤ OBJECTS
+    few : length (things_in now.objects.items) ≤ OBJECTS
     few = (let room = put.room in omega (arith, room))
 
     -- the tables say one object more
@@ -142,7 +142,7 @@ module _ (before now after : Tables) (domain : ℕ) (is_domain : is_domain_in be
         let gone = shown ∙ ap (λ (o : List ℕ). find (is_object_of o element.tag) part.objects) owners in
         let new : option_map (object_of now.entries.items) (Some (object_with domain element.tag element.value)) ≡ Some (object_from owner element) =
         ap (λ (o : List ℕ). Some (object_from o element)) owners in
-        let changed : IsChanged object_order (option_map (object_of now.entries.items) (held now.objects.items puts.slot))
+        let changed : IsChanged object_order (option_map (object_of now.entries.items) (thing_in now.objects.items puts.slot))
         (option_map (object_of now.entries.items) (Some (object_with domain element.tag element.value))) part.objects one.after =
         subst (λ (g : Option registry.Object). IsChanged object_order g (option_map (object_of now.entries.items) (Some (object_with domain element.tag element.value))) part.objects one.after)
         (sym gone) (subst (λ (n : Option registry.Object). IsChanged object_order (find (is_object_of owner element.tag) part.objects) n part.objects one.after) (sym new) one.changed) in
@@ -166,7 +166,7 @@ module _ (before now after : Tables) (domain : ℕ) (is_domain : is_domain_in be
     pub put_after : ArePut before after domain elements behind
     put_after = record {
       forms = All-tail (λ (e : Element). IsObject e.tag (length e.value)) element behind put.forms;
-      room = subst (λ (slots : List (Option Object)). length (used slots) + new_tags (has_object_in slots domain) behind ≤ OBJECTS) (sym puts.set.objects)
+      room = subst (λ (slots : List (Option Object)). length (things_in slots) + new_tags (has_object_in slots domain) behind ≤ OBJECTS) (sym puts.set.objects)
           (room_after now.objects.items domain element behind puts.slot (same.objects ∙ all) puts.is_for put.room);
       shows = says_after;
     }

@@ -3,7 +3,7 @@ use Rattle.std.proofs.Common.{◌≡◌, ℕ, List, [], ◌∷◌, ◌++◌, Opt
 use Rattle.std.specs.Prelude.{IsErrAnd}
 use Rattle.std.proofs.lemmas.List.{append_assoc}
 use Rattle.apdu_core.specs.declared.reply.Status.{Status}
-use Rattle.card_core.specs.Prelude.{Admitted, AsksForSet, Counter, HasData, IsDataObject, Judges, KeptOffer, Object, Offer, OffersAs, Registry, RepresentsOffer, UsesSet, acting, card_cryptogram, counter_bytes, diversification_of, object_named, offer_body, offered}
+use Rattle.card_core.specs.Prelude.{Admitted, AsksForSet, Counter, HasData, IsDataObject, Judges, KeptOffer, Object, Offer, OffersAs, Registry, RepresentsOffer, UsesSet, acting, card_cryptogram, counter_bytes, diversification_of, new_offer, object_named, offer_body}
 use Rattle.card_core.specs.declared.channel_session.ChannelSession.{ChannelSession}
 use Rattle.card_types.specs.declared.tables.Tables.{Tables}
 use Rattle.policy_machine.specs.declared.rule.Rule.{Rule}
@@ -40,11 +40,11 @@ body_is said owner counter made zeroth first second third fourth fifth card cryp
 
 -- an offer for the AID and the host challenge in the code is one for those of the command
 pub offer_stands : (kept : KeptOffer) (enc mac dek : List ℕ) (counter : ℕ) (aid selected host body : List ℕ)
-    → RepresentsOffer kept (offered enc mac dek counter aid host) → aid ≡ selected → host ≡ body
-    → RepresentsOffer kept (offered enc mac dek counter selected body)
+    → RepresentsOffer kept (new_offer enc mac dek counter aid host) → aid ≡ selected → host ≡ body
+    → RepresentsOffer kept (new_offer enc mac dek counter selected body)
 offer_stands kept enc mac dek counter aid selected host body stands same_aid same_host =
-    subst (λ (h : List ℕ). RepresentsOffer kept (offered enc mac dek counter selected h)) same_host
-    (subst (λ (a : List ℕ). RepresentsOffer kept (offered enc mac dek counter a host)) same_aid stands)
+    subst (λ (h : List ℕ). RepresentsOffer kept (new_offer enc mac dek counter selected h)) same_host
+    (subst (λ (a : List ℕ). RepresentsOffer kept (new_offer enc mac dek counter a host)) same_aid stands)
 
 -- the key set of the domain in a slot is the one that the command asks for
 pub set_asked : (admitted : Admitted) (domain : List ℕ) (version : ℕ) (owner : List ℕ) (counter : Counter) → acting admitted ≡ domain

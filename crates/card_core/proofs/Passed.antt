@@ -2,7 +2,7 @@
 use Rattle.std.proofs.Common.{◌≡◌, ℕ, ◌<◌, List, Bool, true, false, Option, None, Some, Err, refl, sym, ap, subst, ◌∙◌, inl, inr, length}
 use Rattle.std.specs.Prelude.{MatchOption, if◌then◌else◌, slice_index_or, slice_set, ◌==◌}
 use Rattle.std.proofs.lemmas.List.{get_or-set_same, get_or_default, set-get_or}
-use Rattle.card_core.specs.Prelude.{Apdu, GeneralFails, Gives, IsAuthentic, IsFirst, IsInSession, IsKnown, IsPlaceBefore, IsPlainManagement, IsSound, IsTaken, IsTerminatedFor, Kept, KeptRepresents, LoadSession, Nothing, Opens, OpensAs, RepresentsSecureChannel, Secured, Serves, Session, Short, State, Volatile, accepting, admitted_as, channel_at, channel_of, class_of, class_passed, command_rules, field_of, held_on, held_passed, is_protected, kept_live, kept_set, live_passed, live_without_load, live_without_place, place_in, place_of, protects, secure_channel_of, session_for, session_in, status_bytes, status_of, with_secure_channel, without_load, without_offer_held, without_place, without_session}
+use Rattle.card_core.specs.Prelude.{Apdu, GeneralFails, Gives, IsAuthentic, IsFirst, IsInSession, IsKnown, IsPlaceBefore, IsPlainManagement, IsSound, IsTakenAs, IsTerminatedFor, Kept, KeptRepresents, LoadSession, Nothing, Opens, OpensAs, RepresentsSecureChannel, Secured, Serves, Session, Short, State, Volatile, accepting, admitted_as, channel_at, channel_of, class_of, class_passed, command_rules, field_of, held_on, held_passed, is_protected, kept_live, kept_set, live_passed, live_without_load, live_without_place, place_in, place_of, protects, secure_channel_of, session_for, session_in, status_bytes, status_of, with_secure_channel, without_load, without_offer_held, without_place, without_session}
 use Rattle.card_types.specs.declared.card_life.CardLife.{CardLife}
 use Rattle.policy_machine.proofs.Passing.{admitted_fits, channel_is_low, class_fits, passed_session}
 use Rattle.policy_machine.proofs.SecureChannelSet.{unloaded}
@@ -83,7 +83,7 @@ module _ (page : ℕ → List ℕ) (card : Kept) (state : State) (shows : KeptRe
   four_passed : length passed.channels ≡ CHANNELS
   four_passed = (class_fits state.registry state.volatile command sound.fits).channels
 
-  pub sound_at : (session : Option Session) (plain : List ℕ) → IsTaken state command session plain → IsSound (admitted_as state command session plain).at
+  pub sound_at : (session : Option Session) (plain : List ℕ) → IsTakenAs state command session plain → IsSound (admitted_as state command session plain).at
   sound_at session plain taken = record {
     well = sound.well;
     ascending = sound.ascending;

@@ -7,7 +7,7 @@ use Rattle.std.proofs.lemmas.List.{map-append}
 use Rattle.std.proofs.lemmas.List.Elements.{filter-append}
 use Rattle.std.proofs.lemmas.List.Sorted.{IsPermutation-append_right, IsPermutation-map, IsPermutation-trans}
 use Rattle.card_types.proofs.ChangedSlot.{same_all}
-use Rattle.card_core.specs.Prelude.{AreCards, IsArranged, IsDomainNamed, NoneHolds, PutFails, Puts, Represents, Well, counter_of, counter_order, counters_but, counters_from, domain_aid, entry_of, file_of, has, has_key_version, held, is_domain_in, keeps_counter, key_of, key_order, keys_but, keys_from, new_key, object_of, same_aid, security_domain, staying, used, with_keys}
+use Rattle.card_core.specs.Prelude.{AreCards, IsArranged, IsDomainNamed, NoneHolds, PutFails, Puts, Represents, Well, counter_of, counter_order, counters_but, counters_from, domain_aid, entry_of, file_of, has, has_key_version, is_domain_in, keeps_counter, key_of, key_order, keys_but, keys_from, new_key, object_of, same_aid, security_domain, staying, thing_in, things_in, with_keys}
 use Rattle.card_types.specs.Registry as registry
 use Rattle.card_types.specs.declared.limits.TheConstants.{DOMAIN_KEYS, KEYS}
 use Rattle.card_types.specs.declared.tables.Entry.{Entry}
@@ -70,7 +70,7 @@ module _ (old new : Tables) (life : new.life ≡ old.life) (entries : new.entrie
     abbrev aid : List ℕ
     aid = domain_aid old.entries.items domain
 
-    there : (entry : Entry) × (held old.entries.items domain ≡ Some entry) × (has security_domain entry.privileges ≡ true)
+    there : (entry : Entry) × (thing_in old.entries.items domain ≡ Some entry) × (has security_domain entry.privileges ≡ true)
     there = domain_there old.entries.items domain is_domain
 
     is_named : IsDomainNamed said aid
@@ -115,15 +115,15 @@ module _ (old new : Tables) (life : new.life ≡ old.life) (entries : new.entrie
     abbrev added : List KeyRec
     added = slot_keys domain version 1 bytes
 
-    says_keys : IsPermutation (map (key_of old.entries.items) (used new.keys.items)) put_keys.0
+    says_keys : IsPermutation (map (key_of old.entries.items) (things_in new.keys.items)) put_keys.0
     says_keys =
         let named = key_of old.entries.items in
-        let moved = IsPermutation-map named (used new.keys.items) (added ++ stay) puts.keys in
+        let moved = IsPermutation-map named (things_in new.keys.items) (added ++ stay) puts.keys in
         let parts : map named (added ++ stay) ≡ keys_from aid version 1 bytes ++ map named stay =
         map-append named added stay ∙ ap (λ (ks : List registry.Key). ks ++ map named stay) (keys_named domain version old.entries.items 1 bytes) in
         let kept = IsPermutation-append_right (keys_from aid version 1 bytes) (map named stay) (keys_but aid replaced said.keys)
         (keys_staying page old said says well domain there.0 there.1 replaced) in
-        IsPermutation-trans _ (keys_from aid version 1 bytes ++ map named stay) put_keys.0 (subst (λ (ks : List registry.Key). IsPermutation (map named (used new.keys.items)) ks) parts moved)
+        IsPermutation-trans _ (keys_from aid version 1 bytes ++ map named stay) put_keys.0 (subst (λ (ks : List registry.Key). IsPermutation (map named (things_in new.keys.items)) ks) parts moved)
         (IsPermutation-trans _ _ put_keys.0 kept put_keys.1.same)
 
     begun_named : map (counter_of old.entries.items) (filter keeps_counter added) ≡ counters_from aid version
@@ -132,10 +132,10 @@ module _ (old new : Tables) (life : new.life ≡ old.life) (entries : new.entrie
         ap (λ (keys : List (List ℕ)). map (counter_of old.entries.items) (filter keeps_counter (slot_keys domain version 1 keys))) some.2
         ∙ counters_named domain version old.entries.items some.0 some.1
 
-    says_counters : IsPermutation (map (counter_of old.entries.items) (filter keeps_counter (used new.keys.items))) put_counters.0
+    says_counters : IsPermutation (map (counter_of old.entries.items) (filter keeps_counter (things_in new.keys.items))) put_counters.0
     says_counters =
         let named = counter_of old.entries.items in
-        let keeping = filter_same keeps_counter (used new.keys.items) (added ++ stay) puts.keys in
+        let keeping = filter_same keeps_counter (things_in new.keys.items) (added ++ stay) puts.keys in
         let moved = IsPermutation-map named _ _ keeping in
         let parts : map named (filter keeps_counter (added ++ stay)) ≡ counters_from aid version ++ map named (filter keeps_counter stay) =
         ap (map named) (filter-append keeps_counter added stay) ∙ map-append named (filter keeps_counter added) (filter keeps_counter stay)
@@ -143,7 +143,7 @@ module _ (old new : Tables) (life : new.life ≡ old.life) (entries : new.entrie
         let kept = IsPermutation-append_right (counters_from aid version) (map named (filter keeps_counter stay)) (counters_but aid replaced said.counters)
         (counters_staying page old said says well domain there.0 there.1 replaced) in
         IsPermutation-trans _ (counters_from aid version ++ map named (filter keeps_counter stay)) put_counters.0
-        (subst (λ (cs : List registry.Counter). IsPermutation (map named (filter keeps_counter (used new.keys.items))) cs) parts moved)
+        (subst (λ (cs : List registry.Counter). IsPermutation (map named (filter keeps_counter (things_in new.keys.items))) cs) parts moved)
         (IsPermutation-trans _ _ put_counters.0 kept put_counters.1.same)
 
     pub says_after : Represents page new after
@@ -153,8 +153,8 @@ module _ (old new : Tables) (life : new.life ≡ old.life) (entries : new.entrie
           (λ other entry at. rw (entries, files));
       files = same_all (file_of page old.entries.items) (file_of page new.entries.items) old.files.items new.files.items said.files says.files files
           (λ other file at. rw entries);
-      keys = subst (λ (es : List (Option Entry)). IsPermutation (map (key_of es) (used new.keys.items)) put_keys.0) (sym entries) says_keys;
-      counters = subst (λ (es : List (Option Entry)). IsPermutation (map (counter_of es) (filter keeps_counter (used new.keys.items))) put_counters.0) (sym entries) says_counters;
+      keys = subst (λ (es : List (Option Entry)). IsPermutation (map (key_of es) (things_in new.keys.items)) put_keys.0) (sym entries) says_keys;
+      counters = subst (λ (es : List (Option Entry)). IsPermutation (map (counter_of es) (filter keeps_counter (things_in new.keys.items))) put_counters.0) (sym entries) says_counters;
       objects = same_all (object_of old.entries.items) (object_of new.entries.items) old.objects.items new.objects.items said.objects says.objects objects
           (λ other object at. rw entries);
       ascending = new_keys_ascending said well aid is_named replaced version bytes sizes versioned untaken put_keys.0 put_counters.0 put_keys.1 put_counters.1 room own_room says.ascending;

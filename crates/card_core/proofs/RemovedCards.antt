@@ -8,7 +8,7 @@ use Rattle.std.proofs.lemmas.List.{get_or-set_other, length-map, length-set}
 use Rattle.std.proofs.lemmas.List.Elements.{All-cons, All-head, All-tail}
 use Rattle.std.proofs.lemmas.Map.Keys.{IsDistinct-cons, IsDistinct-head, IsDistinct-tail}
 use Rattle.card_check.proofs.CardNames.{file_aid_is}
-use Rattle.card_core.specs.Prelude.{AreCards, HasIssuer, IsAlone, IsFrom, IsInLoadPages, IsNoDomain, IsOfCard, IsToGoIn, IsUnloaded, LeavesOthers, LeavesOwned, MayRemoveEntry, RemovesEntry, RemovesLoaded, Represents, SetsFile, Well, aid_of, domain_aid, entry_file, entry_of, file_aid, file_of, freed, held, key_owner, object_owner, pages_named, same_aid, used, without_applications, without_entry, without_file}
+use Rattle.card_core.specs.Prelude.{AreCards, HasIssuer, IsAlone, IsFrom, IsInLoadPages, IsNoDomain, IsOfCard, IsToGoIn, IsUnloaded, LeavesOthers, LeavesOwned, MayRemoveEntry, RemovesEntry, RemovesLoaded, Represents, SetsFile, Well, aid_of, domain_aid, entry_file, entry_of, file_aid, file_of, key_owner, object_owner, pages_named, same_aid, slot_without, thing_in, things_in, without_applications, without_entry, without_file}
 use Rattle.card_types.proofs.ApplicationsRemoved.{applications_removed_keep}
 use Rattle.card_types.proofs.Domains.{domain_aid_is, domain_is_used, file_domain_is_used, loaded_file_is_used, same_domain}
 use Rattle.card_types.proofs.EntryNames.{one_entry_slot}
@@ -35,11 +35,11 @@ thing_there : {T : Type 0} (name : T → List ℕ) (slot : Option T) → IsSome 
 thing_there name None some = cc
 thing_there name (Some thing) some = (thing, refl)
 
-pub entry_there : (tables : Tables) (slot : ℕ) → IsSome (aid_of tables (Thing.Entry slot)) → (entry : Entry) × (held tables.entries.items slot ≡ Some entry)
-entry_there tables slot = thing_there (λ (e : Entry). e.aid) (held tables.entries.items slot)
+pub entry_there : (tables : Tables) (slot : ℕ) → IsSome (aid_of tables (Thing.Entry slot)) → (entry : Entry) × (thing_in tables.entries.items slot ≡ Some entry)
+entry_there tables slot = thing_there (λ (e : Entry). e.aid) (thing_in tables.entries.items slot)
 
-pub file_there : (tables : Tables) (slot : ℕ) → IsSome (aid_of tables (Thing.File slot)) → (file : LoadFile) × (held tables.files.items slot ≡ Some file)
-file_there tables slot = thing_there (λ (f : LoadFile). f.aid) (held tables.files.items slot)
+pub file_there : (tables : Tables) (slot : ℕ) → IsSome (aid_of tables (Thing.File slot)) → (file : LoadFile) × (thing_in tables.files.items slot ≡ Some file)
+file_there tables slot = thing_there (λ (f : LoadFile). f.aid) (thing_in tables.files.items slot)
 
 -- what is said of a thing that is to go, by the slots of entries and of Executable Load Files
 pub no_domain : (tables : Tables) (related : Bool) (slot : ℕ) → IsAlone tables related (Thing.Entry slot) → IsNoDomain tables slot
@@ -51,7 +51,7 @@ no_domain tables related slot alone = record {
 pub no_source : (tables : Tables) (slot : ℕ) → ((other : ℕ) → IsFrom tables slot other → ⊥) → IsUnloaded tables slot
 no_source tables slot none other entry at same = none other (subst (λ (o : Option Entry). MatchOption o ⊥ (λ e. e.file ≡ slot)) (sym at) same)
 
-pub not_factory : (tables : Tables) (slot : ℕ) (file : LoadFile) → held tables.files.items slot ≡ Some file → aid_of tables (Thing.File slot) ≢ Some FACTORY_FILE
+pub not_factory : (tables : Tables) (slot : ℕ) (file : LoadFile) → thing_in tables.files.items slot ≡ Some file → aid_of tables (Thing.File slot) ≢ Some FACTORY_FILE
     → file_aid tables.files.items slot ≢ FACTORY_FILE
 not_factory tables slot file at other same =
     other (ap (option_map (λ (f : LoadFile). f.aid)) at ∙ ap Some (sym (file_aid_is tables.files.items slot file at) ∙ same))
@@ -59,19 +59,19 @@ not_factory tables slot file at other same =
 -- where the slots are the same, all is left; where the things of one owner are freed, those of others
 same_owned : {T : Type 0} (owner : T → ℕ) (stays : ℕ → Type 0) (before after : List (Option T)) → after ≡ before → LeavesOwned owner stays before after
 same_owned owner stays before after same slot thing =
-    (λ at. ap (λ slots. held slots slot) (sym same) ∙ at, λ at _. ap (λ slots. held slots slot) same ∙ at)
+    (λ at. ap (λ slots. thing_in slots slot) (sym same) ∙ at, λ at _. ap (λ slots. thing_in slots slot) same ∙ at)
 
-freed_owned : {T : Type 0} (owner : T → ℕ) (gone : ℕ) (before after : List (Option T)) → after ≡ map (freed owner gone) before
+freed_owned : {T : Type 0} (owner : T → ℕ) (gone : ℕ) (before after : List (Option T)) → after ≡ map (slot_without owner gone) before
     → LeavesOwned owner (λ slot. slot ≡ gone → ⊥) before after
 freed_owned owner gone before after is slot thing = (
-  λ at. (left_there owner gone before slot thing (ap (λ slots. held slots slot) (sym is) ∙ at)).0,
-  λ at stays. ap (λ slots. held slots slot) is ∙ other_stays owner gone before slot thing at stays,
+  λ at. (left_there owner gone before slot thing (ap (λ slots. thing_in slots slot) (sym is) ∙ at)).0,
+  λ at stays. ap (λ slots. thing_in slots slot) is ∙ other_stays owner gone before slot thing at stays,
 )
 
 module _ (before after : Tables) (slot : ℕ) where
   pub entry_leaves : (related : Bool) → RemovesEntry before after slot → LeavesOthers before after related (Thing.Entry slot)
   entry_leaves related removes = record {
-    entries = λ other stays. ap (λ slots. held slots other) removes.entries ∙ get_or-set_other before.entries.items slot other None None stays;
+    entries = λ other stays. ap (λ slots. thing_in slots other) removes.entries ∙ get_or-set_other before.entries.items slot other None None stays;
     keys = freed_owned key_owner slot before.keys.items after.keys.items removes.keys;
     objects = freed_owned object_owner slot before.objects.items after.objects.items removes.objects;
   }
@@ -79,12 +79,12 @@ module _ (before after : Tables) (slot : ℕ) where
   pub loaded_leaves : RemovesLoaded before after slot → LeavesOthers before after true (Thing.File slot)
   loaded_leaves removes = record {
     entries = λ other stays.
-        ap (λ slots. held slots other) removes.entries ∙ held_freed entry_file slot before.entries.items other ∙ kept other stays (held before.entries.items other) refl;
+        ap (λ slots. thing_in slots other) removes.entries ∙ held_freed entry_file slot before.entries.items other ∙ kept other stays (thing_in before.entries.items other) refl;
     keys = same_owned key_owner (λ owner. IsToGoIn before true (Thing.File slot) owner → ⊥) before.keys.items after.keys.items removes.keys;
     objects = same_owned object_owner (λ owner. IsToGoIn before true (Thing.File slot) owner → ⊥) before.objects.items after.objects.items removes.objects;
   }
     where
-      kept : (other : ℕ) → (IsToGoIn before true (Thing.File slot) other → ⊥) → (o : Option Entry) → held before.entries.items other ≡ o → freed entry_file slot o ≡ o
+      kept : (other : ℕ) → (IsToGoIn before true (Thing.File slot) other → ⊥) → (o : Option Entry) → thing_in before.entries.items other ≡ o → slot_without entry_file slot o ≡ o
       kept other stays None at = refl
       kept other stays (Some entry) at = elim (cases_Bool (entry.file == slot)) [
         | inl same ↦ absurd (stays (refl, subst (λ (o : Option Entry). MatchOption o ⊥ (λ e. e.file ≡ slot)) (sym at) (eqb-true entry.file slot same)))
@@ -93,14 +93,14 @@ module _ (before after : Tables) (slot : ℕ) where
 
   pub file_leaves : (related : Bool) → SetsFile before after slot None → LeavesOthers before after related (Thing.File slot)
   file_leaves related set = record {
-    entries = λ other stays. ap (λ slots. held slots other) set.entries;
+    entries = λ other stays. ap (λ slots. thing_in slots other) set.entries;
     keys = same_owned key_owner (λ owner. IsToGoIn before related (Thing.File slot) owner → ⊥) before.keys.items after.keys.items set.keys;
     objects = same_owned object_owner (λ owner. IsToGoIn before related (Thing.File slot) owner → ⊥) before.objects.items after.objects.items set.objects;
   }
 
 -- a thing that may go by its slot may go by its AID
 module _ (page : ℕ → List ℕ) (tables : Tables) (said : registry.Registry) (says : Represents page tables said) (well : Well said) where
-  pub may_remove_entry : HasIssuer tables.entries.items → (slot : ℕ) (entry : Entry) → held tables.entries.items slot ≡ Some entry → IsNoDomain tables slot → slot ≢ ISSUER_SLOT
+  pub may_remove_entry : HasIssuer tables.entries.items → (slot : ℕ) (entry : Entry) → thing_in tables.entries.items slot ≡ Some entry → IsNoDomain tables slot → slot ≢ ISSUER_SLOT
       → MayRemoveEntry said (domain_aid tables.entries.items slot)
   may_remove_entry issuer slot entry at alone other = record {
     other = λ same.
@@ -125,7 +125,7 @@ module _ (page : ℕ → List ℕ) (tables : Tables) (said : registry.Registry) 
       aid : domain_aid tables.entries.items slot ≡ entry.aid
       aid = domain_aid_is tables.entries.items slot entry at
 
-  pub none_loaded : (slot : ℕ) (file : LoadFile) → held tables.files.items slot ≡ Some file → IsUnloaded tables slot → (e : registry.Entry) → Contains said.entries e
+  pub none_loaded : (slot : ℕ) (file : LoadFile) → thing_in tables.files.items slot ≡ Some file → IsUnloaded tables slot → (e : registry.Entry) → Contains said.entries e
       → e.file ≢ file_aid tables.files.items slot
   none_loaded slot file at unloaded e there comes =
       let from = (shows_used (entry_of tables.entries.items tables.files.items) tables.entries.items said.entries says.entries).from e there in
@@ -146,7 +146,7 @@ distinct_dropped (x ∷ a) b c apart =
     IsDistinct-cons nat_eq x (a ++ c) (all_dropped _ a b c (IsDistinct-head nat_eq x (a ++ (b ++ c)) apart)) (distinct_dropped a b c (IsDistinct-tail nat_eq x (a ++ (b ++ c)) apart))
 
 abbrev pages_in : List (Option LoadFile) → List ℕ
-pages_in slots = concat (map pages_named (used slots))
+pages_in slots = concat (map pages_named (things_in slots))
 
 pages_dropped : (first : List ℕ) (slots : List (Option LoadFile)) (slot : ℕ) → IsDistinct nat_eq (first ++ pages_in slots) → IsDistinct nat_eq (first ++ pages_in (slice_set slots slot None))
 pages_dropped first [] slot apart = apart
@@ -157,37 +157,37 @@ pages_dropped first (Some file ∷ slots) (suc slot) apart =
     subst (IsDistinct nat_eq) (append_assoc first (pages_named file) (pages_in (slice_set slots slot None)))
     (pages_dropped (first ++ pages_named file) slots slot (subst (IsDistinct nat_eq) (sym (append_assoc first (pages_named file) (pages_in slots))) apart))
 
-pub all_left : (P : LoadFile → Type 0) (slots : List (Option LoadFile)) (slot : ℕ) → All P (used slots) → All P (used (slice_set slots slot None))
+pub all_left : (P : LoadFile → Type 0) (slots : List (Option LoadFile)) (slot : ℕ) → All P (things_in slots) → All P (things_in (slice_set slots slot None))
 all_left P [] slot all = all
 all_left P (None ∷ slots) zero all = all
-all_left P (Some file ∷ slots) zero all = All-tail P file (used slots) all
+all_left P (Some file ∷ slots) zero all = All-tail P file (things_in slots) all
 all_left P (None ∷ slots) (suc slot) all = all_left P slots slot all
 all_left P (Some file ∷ slots) (suc slot) all =
-    All-cons P file (used (slice_set slots slot None)) (All-head P file (used slots) all) (all_left P slots slot (All-tail P file (used slots) all))
+    All-cons P file (things_in (slice_set slots slot None)) (All-head P file (things_in slots) all) (all_left P slots slot (All-tail P file (things_in slots) all))
 
 files_left : (slots : List (Option LoadFile)) (slot : ℕ) → file_aid slots slot ≢ FACTORY_FILE → AreFiles slots → AreFiles (slice_set slots slot None)
 files_left slots slot other are = record {
   factory = subst (λ (o : Option LoadFile). MatchOption o ⊥ (λ file. (file.aid ≡ FACTORY_FILE) × (file.len ≡ 0)))
-      (sym (get_or-set_other slots slot 0 None None (λ zero. other (ap (file_aid slots) (sym zero) ∙ named (held slots 0) refl are.factory)))) are.factory;
+      (sym (get_or-set_other slots slot 0 None None (λ zero. other (ap (file_aid slots) (sym zero) ∙ named (thing_in slots 0) refl are.factory)))) are.factory;
   pages = all_left IsInLoadPages slots slot are.pages;
   apart = pages_dropped [] slots slot are.apart;
 }
   where
-    named : (o : Option LoadFile) → held slots 0 ≡ o → MatchOption o ⊥ (λ file. (file.aid ≡ FACTORY_FILE) × (file.len ≡ 0)) → file_aid slots 0 ≡ FACTORY_FILE
+    named : (o : Option LoadFile) → thing_in slots 0 ≡ o → MatchOption o ⊥ (λ file. (file.aid ≡ FACTORY_FILE) × (file.len ≡ 0)) → file_aid slots 0 ≡ FACTORY_FILE
     named None at is = absurd is
     named (Some file) at is = file_aid_is slots 0 file at ∙ is.0
 
 module _ (before after : Tables) (slot : ℕ) (cards : AreCards before) where
   -- after an entry went
-  pub entry_gone_cards : (entry : Entry) → held before.entries.items slot ≡ Some entry → RemovesEntry before after slot → IsNoDomain before slot → slot ≢ ISSUER_SLOT
+  pub entry_gone_cards : (entry : Entry) → thing_in before.entries.items slot ≡ Some entry → RemovesEntry before after slot → IsNoDomain before slot → slot ≢ ISSUER_SLOT
       → ((page : ℕ → List ℕ) (said : registry.Registry) → Represents page before said → Well said
       → Represents page after (without_entry said (domain_aid before.entries.items slot))) → AreCards after
   entry_gone_cards entry at removes alone other each =
       cards_from before after
       (ap (λ (slots : List (Option Entry)). length slots) removes.entries ∙ length-set before.entries.items slot None)
       (ap (λ (slots : List (Option LoadFile)). length slots) removes.files)
-      (ap (λ (slots : List (Option KeyRec)). length slots) removes.keys ∙ length-map before.keys.items (freed key_owner slot))
-      (ap (λ (slots : List (Option Object)). length slots) removes.objects ∙ length-map before.objects.items (freed object_owner slot))
+      (ap (λ (slots : List (Option KeyRec)). length slots) removes.keys ∙ length-map before.keys.items (slot_without key_owner slot))
+      (ap (λ (slots : List (Option Object)). length slots) removes.objects ∙ length-map before.objects.items (slot_without object_owner slot))
       (λ issuer. subst (λ (o : Option Entry). MatchOption o ⊥ (λ e. e.aid ≡ ISSUER)) (sym ((entry_leaves before after slot true removes).entries ISSUER_SLOT (λ same. other (sym same)))) issuer)
       (λ files. subst AreFiles (sym removes.files) files)
       (λ page said says well.
@@ -200,7 +200,7 @@ module _ (before after : Tables) (slot : ℕ) (cards : AreCards before) where
       cards
 
   -- after an Executable Load File went
-  module _ (file : LoadFile) (at : held before.files.items slot ≡ Some file) (other : file_aid before.files.items slot ≢ FACTORY_FILE) where
+  module _ (file : LoadFile) (at : thing_in before.files.items slot ≡ Some file) (other : file_aid before.files.items slot ≢ FACTORY_FILE) where
     abbrev aid : List ℕ
     aid = file_aid before.files.items slot
 
@@ -228,7 +228,7 @@ module _ (before after : Tables) (slot : ℕ) (cards : AreCards before) where
         → AreCards after
     loaded_gone_cards removes issuer_stays each =
         cards_from before after
-        (ap (λ (slots : List (Option Entry)). length slots) removes.entries ∙ length-map before.entries.items (freed entry_file slot))
+        (ap (λ (slots : List (Option Entry)). length slots) removes.entries ∙ length-map before.entries.items (slot_without entry_file slot))
         (ap (λ (slots : List (Option LoadFile)). length slots) removes.files ∙ length-set before.files.items slot None)
         (ap (λ (slots : List (Option KeyRec)). length slots) removes.keys)
         (ap (λ (slots : List (Option Object)). length slots) removes.objects)

@@ -3,7 +3,7 @@ use Rattle.std.proofs.Common.{◌≡◌, ◌⊎◌, ℕ, List, [], ◌∷◌, Bo
 use Rattle.std.specs.Prelude.{◌↔◌, All, Contains, IsTrue, MatchOption}
 use Rattle.std.proofs.lemmas.Bool.{true≢false}
 use Rattle.std.proofs.lemmas.List.Elements.{All-contains, All-from_recursion}
-use Rattle.card_core.specs.Prelude.{Admits, Admitted, Apdu, CarriesOut, GeneralFails, GeneralRefusalLeaves, Gives, InSession, IsAuthentic, IsBuilt, IsFirst, IsKnown, IsPlainGetData, IsPlainManagement, IsSound, Kept, KeptRepresents, Of, Opens, Serves, Session, Short, State, Volatile, accepting, admitted_as, class_of, command_rules, field_of, general_rules, instructions_of, is_protected, is_secure, managing, protects, refusal_leaves, rule_of, sent, session_for, status_bytes, status_of, status_word}
+use Rattle.card_core.specs.Prelude.{Admits, Admitted, Apdu, CarriesOut, GeneralFails, GeneralRefusalLeaves, Gives, InSession, IsAuthentic, IsBuilt, IsFirst, IsKnown, IsPlainGetData, IsPlainManagement, IsSound, Kept, KeptRepresents, Of, Opens, Serves, Session, Short, State, Volatile, accepting, admitted_as, class_of, command_rules, field_of, general_rules, instructions_of, is_protected, is_secure, managing, protects, refusal_leaves, reply_bytes, rule_of, session_for, status_bytes, status_of, status_word}
 use Rattle.apdu_core.specs.declared.reply.Status.{Status}
 use Rattle.card_types.proofs.Members.{contains_cases}
 use Rattle.card_types.specs.declared.card_life.CardLife.TheVariants.{Terminated}
@@ -37,7 +37,7 @@ rejected page card state bytes reply rule left sound first leaves shows is =
 -- a command that was carried out, or refused by a rule of its own
 pub carried_out : (page : ℕ → List ℕ) (state : State) (bytes : List ℕ) (command : Apdu) (session : Option Session) (plain : List ℕ) (card : Kept) (body reply : List ℕ)
     (result : Result Status Rule) → IsSound state → Admits state bytes (admitted_as state command session plain)
-    → CarriesOut page (admitted_as state command session plain) card body result → reply ≡ sent session body (status_word result)
+    → CarriesOut page (admitted_as state command session plain) card body result → reply ≡ reply_bytes session body (status_word result)
     → Serves page state bytes card reply (rule_of result)
 carried_out page state bytes command session plain card body reply (Ok status) sound admits (done, shows, judges, does, body_is, word) is =
     let step = inr (inr (record {
@@ -46,7 +46,7 @@ carried_out page state bytes command session plain card body reply (Ok status) s
       admits = admits;
       judges = judges;
       does = does;
-      outcome_is = ap (λ (r : List ℕ). record { state = done.state; reply = r; rule = None }) (is ∙ (λ i. sent session (body_is i) (word i)));
+      outcome_is = ap (λ (r : List ℕ). record { state = done.state; reply = r; rule = None }) (is ∙ (λ i. reply_bytes session (body_is i) (word i)));
     })) in
     (done.state, shows, steps_keep_sound state bytes _ sound step, step)
 carried_out page state bytes command session plain card body reply (Err rule) sound admits (shows, judges, empty) is =
@@ -58,7 +58,7 @@ carried_out page state bytes command session plain card body reply (Err rule) so
       admits = admits;
       judges = judges;
       outcome_is = ap (λ (r : List ℕ). record { state = record { registry = state.registry; volatile = left }; reply = r; rule = Some rule })
-          (is ∙ ap (λ (b : List ℕ). sent session b (status_of rule)) empty);
+          (is ∙ ap (λ (b : List ℕ). reply_bytes session b (status_of rule)) empty);
     })) in
     (record { registry = state.registry; volatile = left }, shows, steps_keep_sound state bytes _ sound step, step)
 
@@ -128,22 +128,22 @@ module _ (state : State) (bytes : List ℕ) (command : Apdu) (short : Short comm
   over_first over = behind (GeneralFails state bytes) command_rules (G5 ∷ G6 ∷ G7 ∷ G8 ∷ []) (Some G5) front (inl ((command, short, ended over), refl))
 
   module _ (not_over : IsTerminatedFor → ⊥) where
-    behind_over : (found : Option RuleG) → IsFirst (GeneralFails state bytes) (G6 ∷ G7 ∷ G8 ∷ []) found → IsFirst (GeneralFails state bytes) general_rules found
-    behind_over found first =
+    after_over : (found : Option RuleG) → IsFirst (GeneralFails state bytes) (G6 ∷ G7 ∷ G8 ∷ []) found → IsFirst (GeneralFails state bytes) general_rules found
+    after_over found first =
         behind (GeneralFails state bytes) command_rules (G5 ∷ G6 ∷ G7 ∷ G8 ∷ []) found front
         (inr (not_of (λ c. (state.registry.life ≡ Terminated) × (IsPlainGetData c → ⊥)) (λ over. not_over (goes_on over)), first))
 
     -- card content management in plain
     pub managed_first : IsPlainManagement command → IsFirst (GeneralFails state bytes) general_rules (Some G6)
-    managed_first managed = behind_over (Some G6) (inl ((command, short, inl managed), refl))
+    managed_first managed = after_over (Some G6) (inl ((command, short, inl managed), refl))
 
     pub no_session_first : is_protected command ≡ true → session_for state command ≡ None → IsFirst (GeneralFails state bytes) general_rules (Some G6)
-    no_session_first protected none = behind_over (Some G6) (inl ((command, short, inr (protected, none)), refl))
+    no_session_first protected none = after_over (Some G6) (inl ((command, short, inr (protected, none)), refl))
 
     -- any other command in plain passes
     pub plain_passes : (IsPlainManagement command → ⊥) → is_protected command ≡ false → IsFirst (GeneralFails state bytes) general_rules None
     plain_passes unmanaged plain =
-        behind_over None (inr (
+        after_over None (inr (
           not_of (λ c. IsPlainManagement c ⊎ ((is_protected c ≡ true) × (session_for state c ≡ None))) g6,
           inr (
             not_of (λ c. InSession state c (λ session. IsAuthentic session c → ⊥)) (λ fails. true≢false (sym fails.0 ∙ plain)),
@@ -170,16 +170,16 @@ module _ (state : State) (bytes : List ℕ) (command : Apdu) (short : Short comm
       of_session : (holds : Session → Type 0) → InSession state command holds → holds session
       of_session holds is = subst (λ (o : Option Session). MatchOption o ⊥ holds) is_session is.1
 
-      behind_session : (found : Option RuleG) → IsFirst (GeneralFails state bytes) (G7 ∷ G8 ∷ []) found → IsFirst (GeneralFails state bytes) general_rules found
-      behind_session found first =
-          behind_over found (inr (not_of (λ c. IsPlainManagement c ⊎ ((is_protected c ≡ true) × (session_for state c ≡ None))) has_session, first))
+      after_session : (found : Option RuleG) → IsFirst (GeneralFails state bytes) (G7 ∷ G8 ∷ []) found → IsFirst (GeneralFails state bytes) general_rules found
+      after_session found first =
+          after_over found (inr (not_of (λ c. IsPlainManagement c ⊎ ((is_protected c ≡ true) × (session_for state c ≡ None))) has_session, first))
 
       pub wrong_mac_first : (IsAuthentic session command → ⊥) → IsFirst (GeneralFails state bytes) general_rules (Some G7)
-      wrong_mac_first wrong = behind_session (Some G7) (inl ((command, short, in_session (λ s. IsAuthentic s command → ⊥) wrong), refl))
+      wrong_mac_first wrong = after_session (Some G7) (inl ((command, short, in_session (λ s. IsAuthentic s command → ⊥) wrong), refl))
 
-      behind_mac : (found : Option RuleG) → IsAuthentic session command → IsFirst (GeneralFails state bytes) (G8 ∷ []) found → IsFirst (GeneralFails state bytes) general_rules found
-      behind_mac found authentic first =
-          behind_session found (inr (
+      after_mac : (found : Option RuleG) → IsAuthentic session command → IsFirst (GeneralFails state bytes) (G8 ∷ []) found → IsFirst (GeneralFails state bytes) general_rules found
+      after_mac found authentic first =
+          after_session found (inr (
             not_of (λ c. InSession state c (λ s. IsAuthentic s c → ⊥)) (λ fails. of_session (λ s. IsAuthentic s command → ⊥) fails authentic),
             first,
           ))
@@ -187,13 +187,13 @@ module _ (state : State) (bytes : List ℕ) (command : Apdu) (short : Short comm
       pub wrong_padding_first : IsAuthentic session command → ((p : List ℕ) → Gives (accepting session command) (field_of command) p → ⊥)
           → IsFirst (GeneralFails state bytes) general_rules (Some G8)
       wrong_padding_first authentic wrong =
-          behind_mac (Some G8) authentic
+          after_mac (Some G8) authentic
           (inl ((command, short, in_session (λ s. (p : List ℕ) → Gives (accepting s command) (field_of command) p → ⊥) wrong), refl))
 
       -- a command that opens passes
       pub opened_passes : (plain : List ℕ) → Opens session command plain → IsFirst (GeneralFails state bytes) general_rules None
       opened_passes plain opens =
-          behind_mac None opens.authentic
+          after_mac None opens.authentic
           (inr (
             not_of (λ c. InSession state c (λ s. (p : List ℕ) → Gives (accepting s c) (field_of c) p → ⊥))
                 (λ fails. of_session (λ s. (p : List ℕ) → Gives (accepting s command) (field_of command) p → ⊥) fails plain opens.gives),

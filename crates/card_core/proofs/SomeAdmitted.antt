@@ -1,7 +1,7 @@
 -- A command that some card has admitted: over these tables, for the security domain in a slot.
 use Rattle.std.proofs.Common.{◌≡◌, ℕ, true, List, [], ◌∷◌, Option, None, Some, refl, ap, sym, subst, ◌∙◌}
 use Rattle.std.specs.Prelude.{MatchOption}
-use Rattle.card_core.specs.Prelude.{ActsIn, Admitted, Apdu, IsDomainNamed, IsLoadNamed, IsOfCard, LoadSession, Represents, State, Well, domain_aid, fresh, has, held, is_domain_held, is_domain_in, security_domain}
+use Rattle.card_core.specs.Prelude.{ActsIn, Admitted, Apdu, IsDomainNamed, IsLoadNamed, IsOfCard, LoadSession, Represents, State, Well, domain_aid, fresh, has, is_domain_held, is_domain_in, security_domain, thing_in}
 use Rattle.card_types.proofs.Domains.{domain_aid_is}
 use Rattle.card_types.proofs.EntryNames.{entry_in_slot}
 use Rattle.card_types.specs.Registry as registry
@@ -9,15 +9,15 @@ use Rattle.card_types.specs.declared.tables.Entry.{Entry}
 use Rattle.card_types.specs.declared.tables.Tables.{Tables}
 use Rattle.policy_slots.specs.declared.live.LoadName.{LoadName}
 
-used_domain : (entries : List (Option Entry)) (domain : ℕ) (found : Option Entry) → held entries domain ≡ found → is_domain_held found ≡ true
-    → (entry : Entry) × (held entries domain ≡ Some entry) × (has security_domain entry.privileges ≡ true)
+used_domain : (entries : List (Option Entry)) (domain : ℕ) (found : Option Entry) → thing_in entries domain ≡ found → is_domain_held found ≡ true
+    → (entry : Entry) × (thing_in entries domain ≡ Some entry) × (has security_domain entry.privileges ≡ true)
 used_domain entries domain None at is = cc
 used_domain entries domain (Some entry) at is = (entry, at, is)
 
 -- the entry that is a domain
 pub domain_there : (entries : List (Option Entry)) (domain : ℕ) → is_domain_in entries domain ≡ true
-    → (entry : Entry) × (held entries domain ≡ Some entry) × (has security_domain entry.privileges ≡ true)
-domain_there entries domain is = used_domain entries domain (held entries domain) refl is
+    → (entry : Entry) × (thing_in entries domain ≡ Some entry) × (has security_domain entry.privileges ≡ true)
+domain_there entries domain is = used_domain entries domain (thing_in entries domain) refl is
 
 -- a load session with the name that the code has given it
 pub load_named : List (Option Entry) → Option LoadName → Option LoadSession

@@ -5,7 +5,7 @@ use Rattle.std.specs.Option.{option_map}
 use Rattle.std.proofs.lemmas.Bool.{cases_Bool}
 use Rattle.card_types.proofs.Domains.{domain_aid_is}
 use Rattle.card_types.proofs.EntryNames.{one_entry_slot}
-use Rattle.card_core.specs.Prelude.{Above, Admitted, AreCards, IsAboveIn, IsChangeFor, IsEntryStep, IsInTree, IsTreeOf, KeepsAids, LocksTree, MakesChange, OneIsSet, Registry, Represents, SaysChange, StagesChanged, StagesOthers, TreeIsSet, Well, aid_of, domain_aid, domain_of, entry_named, entry_page, held, slot_of, with_life, with_lock, with_locks}
+use Rattle.card_core.specs.Prelude.{Above, Admitted, AreCards, IsAboveIn, IsChangeFor, IsEntryStep, IsSlotInTree, IsTreeOf, KeepsAids, LocksTree, MakesChange, OneIsSet, Registry, Represents, SaysChange, StagesChanged, StagesOthers, TreeIsSet, Well, aid_of, domain_aid, domain_of, entry_named, entry_page, slot_of, thing_in, with_life, with_lock, with_locks}
 use Rattle.card_types.specs.Registry as registry
 use Rattle.card_types.specs.declared.found.Found.TheVariants as found
 use Rattle.card_types.specs.declared.life.LifeMark.{LifeMark}
@@ -19,28 +19,28 @@ use Rattle.card_core.proofs.EntryCards.{changing_aids, entries_cards, entry_card
 
 -- the slots of a tree are those of the entries that it has by their names
 module _ (page : ℕ → List ℕ) (tables : Tables) (said : Registry) (says : Represents page tables said) (well : Well said) (domain : ℕ) (top : Entry)
-    (at : held tables.entries.items domain ≡ Some top) (slot : ℕ) (entry : Entry) (here : held tables.entries.items slot ≡ Some entry) where
+    (at : thing_in tables.entries.items domain ≡ Some top) (slot : ℕ) (entry : Entry) (here : thing_in tables.entries.items slot ≡ Some entry) where
   abbrev root : List ℕ
   root = domain_aid tables.entries.items domain
 
-  in_slots : (entry.aid ≡ root) ⊎ IsAboveIn said root entry.aid → IsInTree tables.entries.items domain slot
+  in_slots : (entry.aid ≡ root) ⊎ IsAboveIn said root entry.aid → IsSlotInTree tables.entries.items domain slot
   in_slots (inl same) = inl (one_entry_slot page tables said says slot domain entry top here at (same ∙ domain_aid_is tables.entries.items domain top at))
   in_slots (inr above) =
       inr (above_in_slots page tables said says well domain slot top entry at here
       (subst (Above (domain_of said) root) (sym (domain_aid_is tables.entries.items slot entry here)) above))
 
-  by_names : IsInTree tables.entries.items domain slot → (entry.aid ≡ root) ⊎ IsAboveIn said root entry.aid
+  by_names : IsSlotInTree tables.entries.items domain slot → (entry.aid ≡ root) ⊎ IsAboveIn said root entry.aid
   by_names (inl same) = inl (sym (domain_aid_is tables.entries.items slot entry here) ∙ ap (domain_aid tables.entries.items) same)
   by_names (inr above) =
       inr (subst (Above (domain_of said) root) (domain_aid_is tables.entries.items slot entry here) (above_named page tables said says domain slot top entry at here above))
 
 -- each entry has the AID that it had
 locking_aids : (page : ℕ → List ℕ) (before after : Tables) (said : Registry) → Represents page before said → Well said → (domain : ℕ) (locked : Bool)
-    → IsSome (held before.entries.items domain) → LocksTree before after domain locked → (these : List ℕ → Bool)
+    → IsSome (thing_in before.entries.items domain) → LocksTree before after domain locked → (these : List ℕ → Bool)
     → IsTreeOf said (domain_aid before.entries.items domain) these → KeepsAids before.entries.items after.entries.items
-locking_aids page before after said says well domain locked some locks these tells slot entry here = by (held before.entries.items domain) refl some
+locking_aids page before after said says well domain locked some locks these tells slot entry here = by (thing_in before.entries.items domain) refl some
   where
-    by : (o : Option Entry) → held before.entries.items domain ≡ o → IsSome o → (other : Entry) × (held after.entries.items slot ≡ Some other) × (other.aid ≡ entry.aid)
+    by : (o : Option Entry) → thing_in before.entries.items domain ≡ o → IsSome o → (other : Entry) × (thing_in after.entries.items slot ≡ Some other) × (other.aid ≡ entry.aid)
     by None at some = cc
     by (Some top) at some = elim (cases_Bool (these entry.aid)) [
       | inl inside ↦ (
@@ -56,7 +56,7 @@ locking_aids page before after said says well domain locked some locks these tel
       )
     ]
 
-pub changed_aids : (before after : Tables) (change : StatusChange) → AreCards before → IsSome (held before.entries.items (slot_of change))
+pub changed_aids : (before after : Tables) (change : StatusChange) → AreCards before → IsSome (thing_in before.entries.items (slot_of change))
     → MakesChange before after change → ((page : ℕ → List ℕ) (said : Registry) → Represents page before said → Well said → SaysChange page said before after change)
     → KeepsAids before.entries.items after.entries.items
 changed_aids before after (One slot life) cards some made said = changing_aids before after slot (λ entry. record entry { life = life }) made (λ e. refl)
@@ -101,7 +101,7 @@ pub changed_cards : (before after : Tables) (change : StatusChange) → MakesCha
     → ((page : ℕ → List ℕ) (said : Registry) → Represents page before said → Well said → (now : Registry) × Represents page after now × Well now)
     → AreCards before → AreCards after
 changed_cards before after (One slot life) made keeps each cards =
-    entry_cards before after slot (option_map (λ (entry : Entry). record entry { life = life }) (held before.entries.items slot)) made keeps each cards
+    entry_cards before after slot (option_map (λ (entry : Entry). record entry { life = life }) (thing_in before.entries.items slot)) made keeps each cards
 changed_cards before after (Tree domain locked) made keeps each cards =
     entries_cards before after made.slots made.files made.keys made.objects keeps each cards
 
@@ -110,8 +110,8 @@ pub named_there : {T : Type 0} (name : T → List ℕ) (thing : Option T) (aid :
 named_there name None aid is = cc
 named_there name (Some thing) aid is = refl
 
-pub used_by_name : (slots : List (Option Entry)) (slot : ℕ) (aid : List ℕ) → option_map (λ (entry : Entry). entry.aid) (held slots slot) ≡ Some aid → IsSome (held slots slot)
-used_by_name slots slot aid = named_there (λ (entry : Entry). entry.aid) (held slots slot) aid
+pub used_by_name : (slots : List (Option Entry)) (slot : ℕ) (aid : List ℕ) → option_map (λ (entry : Entry). entry.aid) (thing_in slots slot) ≡ Some aid → IsSome (thing_in slots slot)
+used_by_name slots slot aid = named_there (λ (entry : Entry). entry.aid) (thing_in slots slot) aid
 
 -- with nothing staged before, the pages of entries that are others alone are staged
 pub tree_staged : (before after : Tables) (old new : List ℕ) → old ≡ [] → StagesChanged entry_page before.entries.items after.entries.items old new

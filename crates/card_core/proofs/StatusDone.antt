@@ -3,7 +3,7 @@ use Rattle.std.proofs.Common.{◌≡◌, ℕ, ◌<◌, ◌≤◌, List, [], ◌�
 use Rattle.apdu_core.specs.declared.reply.Status.{Status}
 use Rattle.card_types.specs.declared.tables.Tables.{Tables}
 use Rattle.policy_machine.proofs.Judging.{does_so, judged}
-use Rattle.card_core.specs.Prelude.{ActsIn, Admitted, Effect, EndsAt, GetStatusFails, HasEffect, IsFirst, IsLeftAt, IsPart, IsRequestOf, IsShown, Judges, RepresentsState, Thing, Volatile, get_status, get_status_rules, last_aid, live_with_place, part_limit, place_behind, place_of, with_place}
+use Rattle.card_core.specs.Prelude.{ActsIn, Admitted, Effect, GetStatusFails, HasEffect, IsFirst, IsLastShown, IsLeftAt, IsPart, IsRequestOf, IsShown, Judges, RepresentsState, Thing, Volatile, get_status, get_status_rules, last_aid, live_with_place, part_limit, place_after, place_of, with_place}
 use Rattle.policy_machine.specs.declared.channels.TheConstants.{CHANNELS}
 use Rattle.policy_machine.specs.declared.rule.Rule.{Rule}
 use Rattle.policy_rules.specs.declared.get_status.ListRequest.{ListRequest}
@@ -16,16 +16,16 @@ module _ (admitted : Admitted) where
   abbrev leaves : Volatile → List ℕ → ℕ → Effect
   leaves volatile body status = record { state = record { registry = admitted.at.registry; volatile = volatile }; body = body; status = status }
 
-  whole_left : (bytes : List ℕ) (shown left : List Thing) → EndsAt None shown left → IsLeftAt admitted (leaves admitted.at.volatile bytes 0x9000) shown left
+  whole_left : (bytes : List ℕ) (shown left : List Thing) → IsLastShown None shown left → IsLeftAt admitted (leaves admitted.at.volatile bytes 0x9000) shown left
   whole_left bytes shown [] ends = (refl, refl)
   whole_left bytes shown (next ∷ left) ends = absurd ends
 
-  more_left : (bytes last : List ℕ) (shown left : List Thing) → EndsAt (Some last) shown left
-      → IsLeftAt admitted (leaves (with_place admitted.at.volatile admitted.channel (place_behind admitted shown)) bytes 0x6310) shown left
+  more_left : (bytes last : List ℕ) (shown left : List Thing) → IsLastShown (Some last) shown left
+      → IsLeftAt admitted (leaves (with_place admitted.at.volatile admitted.channel (place_after admitted shown)) bytes 0x6310) shown left
   more_left bytes last shown [] ends = absurd ends
   more_left bytes last shown (next ∷ left) ends = (refl, refl)
 
-  last_is : (last : List ℕ) (shown left : List Thing) → EndsAt (Some last) shown left → last_aid [] shown ≡ last
+  last_is : (last : List ℕ) (shown left : List Thing) → IsLastShown (Some last) shown left → last_aid [] shown ≡ last
   last_is last shown [] ends = absurd ends
   last_is last shown (next ∷ left) ends = ends
 
@@ -73,7 +73,7 @@ module _ (admitted : Admitted) where
           → IsPart admitted bytes (Some last) → status.0 ≡ 0x6310 → IsShown admitted page tables after bytes status
       placed_done domain acts live after channel kept last says low four here set kind body is_last part word =
           let below = subst (λ (n : ℕ). n < CHANNELS) here low in
-          let place = place_behind admitted part.shown in
+          let place = place_after admitted part.shown in
           let same : place_of kept ≡ place =
           (λ i. record {
             kind = (kind ∙ of.means.kind) i;

@@ -3,7 +3,7 @@ use Rattle.std.proofs.Common.{◌≡◌, ◌⊎◌, inl, inr, ℕ, ◌≤◌, tr
 use Rattle.std.proofs.lemmas.Bool.{and_parts, eqb-true}
 use Rattle.std.proofs.lemmas.List.Elements.{All-contains}
 use Rattle.card_types.proofs.ObjectNames.{objects_shown}
-use Rattle.card_core.specs.Prelude.{IsInOrder, IsObject, IsValueIn, IsWellObject, held, is_tagged_in}
+use Rattle.card_core.specs.Prelude.{IsInOrder, IsObject, IsValueIn, IsWellObject, is_tagged_in, thing_in}
 use Rattle.card_types.specs.declared.search.InSlot.{InSlot}
 use Rattle.card_types.specs.declared.tables.Object.{Object}
 use Rattle.card_types.specs.declared.tables.Tables.{Tables}
@@ -21,7 +21,7 @@ small tag size (inr second) (inr (inr (inl is, _, _))) = absurd (omega (arith, s
 small tag size (inr second) (inr (inr (inr is, _, _))) = absurd (omega (arith, second, is))
 
 module _ (tables : Tables) (tag : ℕ) (which : (tag ≡ 0x42) ⊎ (tag ≡ 0x45)) (found : InSlot Object)
-    (at : held tables.objects.items found.slot ≡ Some found.thing.now) (fitting : is_tagged_in ISSUER_SLOT tag (Some found.thing.now) ≡ true) where
+    (at : thing_in tables.objects.items found.slot ≡ Some found.thing.now) (fitting : is_tagged_in ISSUER_SLOT tag (Some found.thing.now) ≡ true) where
   tagged : (found.thing.now.owner ≡ ISSUER_SLOT) × (found.thing.now.tag ≡ tag)
   tagged =
       let parts = and_parts (found.thing.now.owner == ISSUER_SLOT) (found.thing.now.tag == tag) fitting in

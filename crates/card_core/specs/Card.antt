@@ -10,7 +10,7 @@ use Rattle.policy_machine.specs.Sound.{IsSound}
 use Rattle.policy_machine.specs.State.{State}
 use Rattle.policy_machine.specs.Step.{Outcome}
 use Rattle.policy_machine.specs.declared.rule.Rule.{Rule}
-use Rattle.rec_store.specs.Reopens.{Keeps, ReopensEither, load_page}
+use Rattle.rec_store.specs.Reopens.{KeepsRegistry, ReopensEither, load_page}
 use Rattle.card_core.specs.Kept.{Kept, KeptRepresents, kept_of}
 use Rattle.card_core.specs.declared.channels.Channels.{Channels}
 
@@ -21,8 +21,8 @@ pub record CardOver (F : Type 0) : Type 0 where
   pub channels : Channels
   pub live : Bool
 
-abbrev pub kept : {F : Type 0} → CardOver F → Kept
-kept card = kept_of card.tables card.channels
+abbrev pub kept_by : {F : Type 0} → CardOver F → Kept
+kept_by card = kept_of card.tables card.channels
 
 -- The card stands for this state: it goes on, what it keeps shows the state, and power lost leaves its registry. Where the
 -- device tells its pages, the load pages are its own.
@@ -30,10 +30,10 @@ pub record CardRepresents {F : Type 0} (device : Flash F) (card : CardOver F) (s
   pub live : card.live ≡ true
   pub page : ℕ → List ℕ
   pub whole : HasPages page
-  pub shows : KeptRepresents page (kept card) state
+  pub shows : KeptRepresents page (kept_by card) state
   pub sound : IsSound state
   pub load : device.tells → load_page (device.pages card.flash) ≡ page
-  pub keeps : device.tells → Keeps device card.flash state.registry
+  pub keeps : device.tells → KeepsRegistry device card.flash state.registry
 
 -- power lost at any moment between the two leaves one registry or the other
 abbrev pub LeavesEither : {F : Type 0} → Flash F → F → F → Registry → Registry → Type 0

@@ -7,7 +7,7 @@ use Rattle.card_types.specs.declared.tables.Tables.{Tables}
 use Rattle.policy_machine.proofs.Judging.{IsListed, does_so}
 use Rattle.policy_machine.specs.Admission.{Admitted}
 use Rattle.policy_machine.specs.Commands.{HasEffect, TakesCommand}
-use Rattle.policy_machine.specs.Delegation.{unconfirmed}
+use Rattle.policy_machine.specs.Delegation.{no_confirmation}
 use Rattle.policy_machine.specs.ManagedForm.{CommandAsks, JudgedForm, ManagedEffect, ManagedForm, command_form}
 use Rattle.policy_machine.specs.State.{Effect}
 
@@ -16,10 +16,10 @@ pub record IsOfForm (form : ManagedForm) (rules : JudgedForm) (receipted : Bool)
   pub does : (done : Effect) → ManagedEffect form admitted done → HasEffect admitted done
   pub delegated : form.judged.delegation.is_delegated admitted ↔ rules.delegation.is_delegated admitted
   pub receipted_is : receipted ≡ true
-  pub reply : (asked : form.judged.Asked) → form.reply asked ≡ unconfirmed
+  pub reply : (asked : form.judged.Asked) → form.reply asked ≡ no_confirmation
 
 -- a command of a form that is listed
-pub of_form : (form : ManagedForm) → IsListed (command_form form) → ((asked : form.judged.Asked) → form.reply asked ≡ unconfirmed)
+pub of_form : (form : ManagedForm) → IsListed (command_form form) → ((asked : form.judged.Asked) → form.reply asked ≡ no_confirmation)
     → (admitted : Admitted) → TakesCommand (command_form form) admitted.command → IsOfForm form form.judged true admitted
 of_form form listed reply admitted takes = record {
   does = does_so (command_form form) listed admitted takes;

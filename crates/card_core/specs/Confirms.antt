@@ -2,7 +2,7 @@
 -- 00.
 use Rattle.std.specs.Prelude.{◌≡◌, ◌⊎◌, ◌↔◌, ℕ, ◌++◌, List, [], Option, None, Some, IfSome}
 use Rattle.card_types.specs.KeySets.{HoldsKeyOf}
-use Rattle.card_types.specs.Represents.{HasIssuer, Represents, held}
+use Rattle.card_types.specs.Represents.{HasIssuer, Represents, thing_in}
 use Rattle.card_types.specs.Search.{NoneFits}
 use Rattle.card_types.specs.Registry.{Registry}
 use Rattle.card_types.specs.declared.tables.Entry.{Entry}
@@ -11,7 +11,7 @@ use Rattle.card_types.specs.declared.tables.Object.{Object}
 use Rattle.card_types.specs.declared.tables.Tables.{Tables}
 use Rattle.card_types.specs.declared.tables.TheConstants.{ISSUER_SLOT}
 use Rattle.policy_machine.specs.Admission.{Admitted}
-use Rattle.policy_machine.specs.Delegation.{IsConfirmed, IsUnconfirmed, unconfirmed}
+use Rattle.policy_machine.specs.Delegation.{IsConfirmed, IsUnconfirmed, no_confirmation}
 use Rattle.policy_slots.specs.ObjectsHeld.{is_tagged_in}
 use Rattle.policy_machine.specs.State.{Effect}
 use Rattle.policy_slots.specs.StateShown.{ActsIn}
@@ -20,22 +20,22 @@ use Rattle.tokens_receipts.specs.Receipt.{aids_of, receipt}
 use Rattle.card_core.specs.declared.confirm.Aids.{Aids}
 
 -- the AIDs, in their order
-abbrev pub aids_in : Aids → List (List ℕ)
-aids_in aids = aids_of aids.first aids.second aids.third
+abbrev pub aid_list : Aids → List (List ℕ)
+aid_list aids = aids_of aids.first aids.second aids.third
 
 -- the slot holds an entry with the AID and the receipt number that it had
 abbrev pub KeepsNumber : Tables → Tables → ℕ → Type 0
 KeepsNumber before after slot =
-    (entry : Entry) → held before.entries.items slot ≡ Some entry
-    → (other : Entry) × (held after.entries.items slot ≡ Some other) × (other.aid ≡ entry.aid) × (other.receipts ≡ entry.receipts)
+    (entry : Entry) → thing_in before.entries.items slot ≡ Some entry
+    → (other : Entry) × (thing_in after.entries.items slot ≡ Some other) × (other.aid ≡ entry.aid) × (other.receipts ≡ entry.receipts)
 
 -- What a receipt is made from is as it was: the AID and the receipt number of who confirms, the keys that are left, and the data objects of
 -- the Issuer Security Domain.
 pub record KeepsReceipts (before after : Tables) (receipter : Option ℕ) : Type 0 where
   pub entry : IfSome receipter (KeepsNumber before after)
-  pub keys : (slot : ℕ) (key : KeyRec) → held after.keys.items slot ≡ Some key → held before.keys.items slot ≡ Some key
+  pub keys : (slot : ℕ) (key : KeyRec) → thing_in after.keys.items slot ≡ Some key → thing_in before.keys.items slot ≡ Some key
   pub objects : (slot : ℕ) (object : Object) → object.owner ≡ ISSUER_SLOT
-      → (held after.objects.items slot ≡ Some object ↔ held before.objects.items slot ≡ Some object)
+      → (thing_in after.objects.items slot ≡ Some object ↔ thing_in before.objects.items slot ≡ Some object)
 
 -- who confirms the command does so from what was there before a change, and may still make a receipt
 abbrev pub KeepsConfirmer : Tables → Tables → Admitted → Type 0
@@ -57,7 +57,7 @@ leaves admitted registry body = record { state = record { registry = registry; v
 
 -- the domain in the slot confirms a command that was about these things, or nobody does
 abbrev pub IsAnsweredBy : Option ℕ → Admitted → List (List ℕ) → Registry → Effect → Type 0
-IsAnsweredBy None admitted aids changed done = IsUnconfirmed changed unconfirmed done
+IsAnsweredBy None admitted aids changed done = IsUnconfirmed changed no_confirmation done
 IsAnsweredBy (Some slot) admitted aids changed done = IsConfirmed admitted aids changed done
 
 -- The command is answered by these bytes, confirmed or not, and the tables say the registry that it leaves.
@@ -74,7 +74,7 @@ Confirms tables tables' receipter aids body =
 -- the value of the data object of the Issuer Security Domain with this tag, or nothing where it has none
 abbrev pub IsValueIn : List (Option Object) → ℕ → List ℕ → Type 0
 IsValueIn objects tag value =
-    ((slot : ℕ) × (object : Object) × (held objects slot ≡ Some object) × (object.owner ≡ ISSUER_SLOT) × (object.tag ≡ tag) × (value ≡ object.value.items))
+    ((slot : ℕ) × (object : Object) × (thing_in objects slot ≡ Some object) × (object.owner ≡ ISSUER_SLOT) × (object.tag ≡ tag) × (value ≡ object.value.items))
     ⊎ (NoneFits (λ object. is_tagged_in ISSUER_SLOT tag (Some object)) objects × (value ≡ []))
 
 -- the card's unique data, as these slots have them

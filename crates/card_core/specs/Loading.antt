@@ -4,7 +4,7 @@ use Rattle.std.specs.Prelude.{◌≡◌, ℕ, List, [], All, true, Option, None,
 use Rattle.page_journal.specs.Pages.{IsLoadPage}
 use Rattle.card_types.specs.declared.tables.Tables.{Tables}
 use Rattle.flash_core.specs.declared.flash.Flash.{Ghosts as Flash}
-use Rattle.load_session.specs.Loaded.{IsWhole, loaded, numbers}
+use Rattle.load_session.specs.Loaded.{IsWholePage, numbers, pages_after}
 use Rattle.load_session.specs.Session.{RepresentsLoad}
 use Rattle.load_session.specs.declared.load_write.LoadWrite.{LoadWrite}
 use Rattle.load_session.specs.declared.session.LoadSession.{LoadSession}
@@ -21,13 +21,13 @@ RepresentsLoading page tables (Some kept) (Some load) = RepresentsLoad page tabl
 
 -- load pages with those that are to be written
 abbrev pub with_due : (ℕ → List ℕ) → Loading → ℕ → List ℕ
-with_due page loading = loaded page loading.writes.items
+with_due page loading = pages_after page loading.writes.items
 
 -- load pages that no Executable Load File of the tables has, and their bytes
 pub record AreFree (tables : Tables) (writes : List LoadWrite) : Type 0 where
   pub range : All IsLoadPage (numbers writes)
   pub free : All (IsFree tables) (numbers writes)
-  pub whole : All IsWhole writes
+  pub whole : All IsWholePage writes
 
 -- between two commands nothing is staged and no load page is to be written, and each that is free by the tables is spare on the device
 pub record IsIdle {F : Type 0} (device : Flash F) (records : Contents F) (due : List LoadWrite) : Type 0 where

@@ -3,7 +3,7 @@
 use Rattle.std.specs.Prelude.{◌≡◌, ℕ, ◌<◌, ◌==◌, List, [], Option, Result, Ok, Err, None, Some, IfSome, true}
 use Rattle.std.specs.List.{list_any}
 use Rattle.apdu_core.specs.declared.reply.Status.{Status}
-use Rattle.card_types.specs.Represents.{Represents, held}
+use Rattle.card_types.specs.Represents.{Represents, thing_in}
 use Rattle.card_types.specs.declared.tables.Entry.{Entry}
 use Rattle.card_types.specs.declared.tables.Tables.{Tables}
 use Rattle.policy_machine.specs.Admission.{Admitted}
@@ -19,7 +19,7 @@ use Rattle.rec_store.specs.Reopens.{IsFree}
 
 -- the slot holds an entry with the AID that it had
 abbrev pub KeepsAid : List (Option Entry) → List (Option Entry) → ℕ → Type 0
-KeepsAid before after slot = (entry : Entry) → held before slot ≡ Some entry → (other : Entry) × (held after slot ≡ Some other) × (other.aid ≡ entry.aid)
+KeepsAid before after slot = (entry : Entry) → thing_in before slot ≡ Some entry → (other : Entry) × (thing_in after slot ≡ Some other) × (other.aid ≡ entry.aid)
 
 -- Each slot that is used holds an entry with the AID that it had.
 abbrev pub KeepsAids : List (Option Entry) → List (Option Entry) → Type 0
@@ -27,7 +27,7 @@ KeepsAids before after = (slot : ℕ) → KeepsAid before after slot
 
 -- The slots selected on the channels and that of the load session's domain hold entries with the AIDs that they had.
 pub record KeepsSelected (live : Live) (before after : List (Option Entry)) : Type 0 where
-  pub selected : (number slot : ℕ) → number < CHANNELS → held live.selected number ≡ Some slot → KeepsAid before after slot
+  pub selected : (number slot : ℕ) → number < CHANNELS → thing_in live.selected number ≡ Some slot → KeepsAid before after slot
   pub load : IfSome live.load (λ name. KeepsAid before after name.domain)
 
 -- no Executable Load File takes a load page that was free

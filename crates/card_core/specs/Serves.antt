@@ -27,16 +27,16 @@ Serves page state bytes card reply rule =
     (next : State) × KeptRepresents page card next × IsSound next × Step state bytes (record { state = next; reply = reply; rule = rule })
 
 -- The command that has passed is this one and came on the channel; where it may go on with a listing, it does so at this place.
-pub record IsPassed (channel : ℕ) (command : Apdu) (place : Option Place) (judged : Admitted) : Type 0 where
-  pub on : channel ≡ judged.channel
-  pub is : judged.command ≡ command
-  pub goes_on : command.ins ≡ GET_STATUS → IsPlaceBefore place judged
+pub record IsPassed (channel : ℕ) (command : Apdu) (place : Option Place) (admitted : Admitted) : Type 0 where
+  pub on : channel ≡ admitted.channel
+  pub is : admitted.command ≡ command
+  pub goes_on : command.ins ≡ GET_STATUS → IsPlaceBefore place admitted
 
 -- The command that has passed asks for this and came on the channel; it may go on with a listing at this place.
-pub record IsAsked (channel : ℕ) (request : Request) (place : Option Place) (judged : Admitted) : Type 0 where
-  pub on : channel ≡ judged.channel
-  pub asks : IsRequestOf request judged.command
-  pub goes_on : (form_in request).instruction ≡ GET_STATUS → IsPlaceBefore place judged
+pub record IsAsked (channel : ℕ) (request : Request) (place : Option Place) (admitted : Admitted) : Type 0 where
+  pub on : channel ≡ admitted.channel
+  pub asks : IsRequestOf request admitted.command
+  pub goes_on : (form_in request).instruction ≡ GET_STATUS → IsPlaceBefore place admitted
 
 -- no rule of its own refused an admitted command, and it did what it does
 abbrev pub IsDone : (ℕ → List ℕ) → Admitted → Kept → List ℕ → Status → Type 0

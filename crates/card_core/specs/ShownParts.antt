@@ -4,11 +4,11 @@ use Rattle.policy_machine.specs.Admission.{Admitted}
 use Rattle.policy_machine.specs.GetStatus.{AreTemplates, IsFullFor, IsListing, Thing, last_aid}
 
 -- where things are left this is the last AID shown, and there is none where nothing is left
-abbrev pub EndsAt : Option (List ℕ) → List Thing → List Thing → Type 0
-EndsAt None shown [] = Unit {0}
-EndsAt None shown (next ∷ left) = ⊥
-EndsAt (Some last) shown [] = ⊥
-EndsAt (Some last) shown (next ∷ left) = last_aid [] shown ≡ last
+abbrev pub IsLastShown : Option (List ℕ) → List Thing → List Thing → Type 0
+IsLastShown None shown [] = Unit {0}
+IsLastShown None shown (next ∷ left) = ⊥
+IsLastShown (Some last) shown [] = ⊥
+IsLastShown (Some last) shown (next ∷ left) = last_aid [] shown ≡ last
 
 -- the bytes are a part of the listing, with as many things as have room in it
 pub record IsPart (admitted : Admitted) (bytes : List ℕ) (last : Option (List ℕ)) : Type 0 where
@@ -17,4 +17,4 @@ pub record IsPart (admitted : Admitted) (bytes : List ℕ) (last : Option (List 
   pub listing : IsListing admitted (shown ++ left)
   pub body : AreTemplates admitted.at.registry admitted.command.p1 shown bytes
   pub full : IsFullFor admitted.at.registry admitted.command.p1 left bytes
-  pub ends : EndsAt last shown left
+  pub ends : IsLastShown last shown left

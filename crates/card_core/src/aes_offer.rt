@@ -1,7 +1,7 @@
 //! An offer under keys of any length (GlobalPlatform Amendment D, 7.1.1).
 
 ghost use Rattle.std.specs.Prelude.{◌≡◌, ◌≤◌, IfOk, IsOk, OnOk, length};
-ghost use Rattle.card_core.specs.Prelude.{HasCryptogram, HasMac, HaveKeyLength, RepresentsOffer, RepresentsSession, answered, card_cryptogram, offered};
+ghost use Rattle.card_core.specs.Prelude.{HasCryptogram, HasMac, HaveKeyLength, RepresentsOffer, RepresentsSession, card_cryptogram, new_offer, session_from};
 ghost use Rattle.card_types.specs.declared.limits.TheConstants.{COUNTER_LIMIT};
 ghost use Rattle.scp03_card.specs.Offer as model;
 
@@ -34,7 +34,7 @@ fn offer_with<K: BlockKey>(set: &KeySet<'_>, aid: &Aid, host: &[u8; 8]) -> Offer
     requires lengths { HaveKeyLength set.now }
     requires counter { set.now.enc.now.counter ≤ COUNTER_LIMIT }
     ensures made { RepresentsOffer result
-        (offered set.now.enc.now.bytes.items set.now.mac.now.bytes.items set.now.dek.now.bytes.items set.now.enc.now.counter aid.now host.now) }
+        (new_offer set.now.enc.now.bytes.items set.now.mac.now.bytes.items set.now.dek.now.bytes.items set.now.enc.now.counter aid.now host.now) }
 {
     let keys = StaticKeys {
         enc: K::from_key(&set.enc.bytes),
@@ -50,7 +50,7 @@ impl AesOffer {
         requires lengths { HaveKeyLength set.now }
         requires counter { set.now.enc.now.counter ≤ COUNTER_LIMIT }
         ensures made { RepresentsOffer result
-            (offered set.now.enc.now.bytes.items set.now.mac.now.bytes.items set.now.dek.now.bytes.items set.now.enc.now.counter aid.now host.now) }
+            (new_offer set.now.enc.now.bytes.items set.now.mac.now.bytes.items set.now.dek.now.bytes.items set.now.enc.now.counter aid.now host.now) }
     {
         let kind = match set.enc.bytes.len() {
             16 => AesKind::Aes128(offer_with(set, aid, host)),
@@ -84,7 +84,7 @@ impl AesOffer {
 
     /// Judges the host's answer at this level, as `Offer::authenticate` does.
     pub fn authenticate(self, level: Level, body: &[u8; 16]) -> Result<AesSession, AuthRefusal>
-        ensures ok { (offer : model.Offer) → RepresentsOffer self offer → IfOk result (λ kept. RepresentsSession kept (answered offer level)) }
+        ensures ok { (offer : model.Offer) → RepresentsOffer self offer → IfOk result (λ kept. RepresentsSession kept (session_from offer level)) }
         ensures cryptogram_right { (offer : model.Offer) → RepresentsOffer self offer → OnOk result (HasCryptogram offer body.now) }
         ensures mac_right { (offer : model.Offer) → RepresentsOffer self offer → OnOk result (HasMac offer level body.now) }
         ensures back { (offer : model.Offer) → RepresentsOffer self offer → HasCryptogram offer body.now → HasMac offer level body.now → IsOk result }

@@ -1,7 +1,7 @@
 //! A session under keys of any length (GlobalPlatform Amendment D, 6.2).
 
 ghost use Rattle.std.specs.Prelude.{◌≡◌, ℕ, ◌+◌, ◌≤◌, ◌↔◌, IsTrue, List, length, take, IfOk, OnOk, OnErr};
-ghost use Rattle.card_core.specs.Prelude.{Gives, IsAuthentic, IsKeyLength, IsKeySent, Opens, RepresentsSession, accepting, apdu_of, array_vec_len, check_value, field_of, protected, sealed_size, sent_key};
+ghost use Rattle.card_core.specs.Prelude.{Gives, IsAuthentic, IsKeyLength, IsKeySent, Opens, RepresentsSession, accepting, apdu_of, array_vec_len, check_value, field_of, sealed_size, sent_key, session_reply};
 ghost use Rattle.scp03_card.specs.Session as model;
 ghost use Rattle.scp03_card.specs.declared.close.TheConstants.{DATA_LIMIT};
 
@@ -61,7 +61,7 @@ impl AesSession {
     /// Makes the whole reply to the command that was opened last, as `Session::close_reply` does.
     pub fn close_reply(&mut self, reply: &mut Reply, status: Status)
         requires { array_vec_len reply.old ≤ DATA_LIMIT }
-        ensures protected { (session : model.Session) → RepresentsSession self.old session → reply.new.items ≡ protected session reply.old.items status.0 }
+        ensures protected { (session : model.Session) → RepresentsSession self.old session → reply.new.items ≡ session_reply session reply.old.items status.0 }
         ensures unchanged { self.new ≡ self.old }
     {
         match &mut self.kind {

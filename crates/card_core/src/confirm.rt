@@ -2,7 +2,7 @@
 //! Card Specification 2.3.1, 9.1.3.4, 11.1.6 and C.5).
 
 ghost use Rattle.std.specs.Prelude.{◌≡◌, ◌⊎◌, ◌≤◌, ◌+◌, ◌++◌, ℕ, List, [], IfSome, length, true};
-ghost use Rattle.card_core.specs.Prelude.{AreCards, Confirms, HasKey, HasRoomFor, IsInOrder, IsKeyLength, IsReceiptIn, IsUniqueIn, IsValueIn, KeepsAids, MayReceipt, aids_in, aids_of, entry_pages};
+ghost use Rattle.card_core.specs.Prelude.{AreCards, Confirms, HasFramesFor, HasKey, IsInOrder, IsKeyLength, IsReceiptIn, IsUniqueIn, IsValueIn, KeepsAids, MayReceipt, aid_list, aids_of, entry_pages};
 ghost use Rattle.tokens_receipts.specs.Receipt.{receipt as receipt_of};
 ghost use Rattle.scp03_card.specs.declared.close.TheConstants.{DATA_LIMIT};
 
@@ -29,7 +29,7 @@ pub struct Aids {
 
 impl Aids {
     pub fn new(first: Aid, second: Option<Aid>, third: Option<Aid>) -> Aids
-        ensures { aids_in result ≡ aids_of first second third }
+        ensures { aid_list result ≡ aids_of first second third }
     {
         Aids {
             first,
@@ -48,11 +48,11 @@ pub fn confirm<F: Flash>(
     reply: &mut Reply,
 )
     requires live { records.old.live ≡ true }
-    requires frames { HasRoomFor entry_pages records.old.staged }
+    requires frames { HasFramesFor entry_pages records.old.staged }
     requires cards { AreCards records.old.tables }
     requires able { IfSome receipter (MayReceipt records.old.tables) }
     requires empty { reply.old.items ≡ [] }
-    ensures answered { Confirms records.old.tables records.new.tables receipter (aids_in about.now) reply.new.items }
+    ensures answered { Confirms records.old.tables records.new.tables receipter (aid_list about.now) reply.new.items }
     ensures aids { KeepsAids records.old.tables.entries.items records.new.tables.entries.items }
     ensures files { records.new.tables.files.items ≡ records.old.tables.files.items }
     ensures cards { AreCards records.new.tables }
@@ -106,7 +106,7 @@ fn receipt_under<K: BlockKey>(
 )
     requires length { length key.now.bytes.items ≡ K.LEN }
     requires short { length unique.now ≤ 20 }
-    ensures { out.new.items ≡ receipt_of key.now.bytes.items number unique.now (aids_in about.now) }
+    ensures { out.new.items ≡ receipt_of key.now.bytes.items number unique.now (aid_list about.now) }
 {
     let key = K::from_key(&key.bytes);
     let (second, third) = (about.second.as_ref(), about.third.as_ref());
@@ -117,7 +117,7 @@ fn receipt_under<K: BlockKey>(
 fn write_under(key: &KeyRec, number: u16, unique: &[u8], about: &Aids, out: &mut ArrayVec<u8, 48>)
     requires length { IsKeyLength (length key.now.bytes.items) }
     requires short { length unique.now ≤ 20 }
-    ensures { out.new.items ≡ receipt_of key.now.bytes.items number unique.now (aids_in about.now) }
+    ensures { out.new.items ≡ receipt_of key.now.bytes.items number unique.now (aid_list about.now) }
 {
     match key.bytes.len() {
         16 => receipt_under::<SealingAes128>(key, number, unique, about, out),
@@ -131,7 +131,7 @@ fn write_receipt(tables: &Tables, slot: u8, number: u16, about: &Aids, reply: &m
     requires in_order { IsInOrder tables.now }
     requires key { (place : ℕ) × HasKey tables.now.keys.items slot 0x71 1 place }
     requires empty { reply.old.items ≡ [] }
-    ensures receipt { IsReceiptIn tables.now slot number (aids_in about.now) reply.new.items }
+    ensures receipt { IsReceiptIn tables.now slot number (aid_list about.now) reply.new.items }
     ensures size { length reply.new.items ≤ 48 }
 {
     let found = find_key(&tables.keys, slot, RECEIPT_KEY, 1).unwrap();

@@ -2,7 +2,7 @@
 //! (GlobalPlatform Card Specification 2.3.1, 9.1.3 and 9.3 to 9.5).
 
 ghost use Rattle.std.specs.Prelude.{◌≡◌, [], true};
-ghost use Rattle.card_core.specs.Prelude.{Admitted, AreCards, BecomesAsAsked, ForActing, HasRoomFor, IsChanging, IsOfForm, IsRequestOf, IsWellFormed, JudgedFirst, KeepsConfirmer, KeepsFree, KeepsSelected, ManagedForm, aids_in, entry_pages, is_domain_in};
+ghost use Rattle.card_core.specs.Prelude.{Admitted, AreCards, BecomesAsAsked, ForActing, HasFramesFor, IsChanging, IsOfForm, IsRequestOf, IsWellFormed, JudgedFirst, KeepsConfirmer, KeepsFree, KeepsSelected, ManagedForm, aid_list, entry_pages, is_domain_in};
 
 use crate::confirm::{Aids, confirm};
 use crate::managed_request::{Acting, ManagedRequest};
@@ -33,13 +33,13 @@ pub trait ConfirmedRequest: FormRequest {
         requires passed { ForActing records.old.tables acting.now.domain (λ page admitted. Self.told page records.old.tables acting.now.live.now admitted
             → Self.reads self.now admitted.command → JudgedFirst Self.form admitted None) }
         ensures becomes { ForActing records.old.tables acting.now.domain (λ page admitted. IsRequestOf (Self.request self.now) admitted.command
-            → BecomesAsAsked managed admitted page records.new.tables (aids_in result)) }
+            → BecomesAsAsked managed admitted page records.new.tables (aid_list result)) }
         ensures confirmer { ForActing records.old.tables acting.now.domain (λ page admitted. KeepsConfirmer records.old.tables records.new.tables admitted) }
         ensures selected { KeepsSelected acting.now.live.now records.old.tables.entries.items records.new.tables.entries.items }
         ensures free { KeepsFree records.old.tables records.new.tables }
         ensures cards { AreCards records.new.tables }
         ensures same { (records.new.flash ≡ records.old.flash) × (records.new.live ≡ true) }
-        ensures room { HasRoomFor entry_pages records.new.staged };
+        ensures room { HasFramesFor entry_pages records.new.staged };
 
     /// Its commands are of the form, and may have a receipt.
     ghost formed: { (these : Self) (admitted : Admitted) → IsRequestOf (Self.request these) admitted.command → IsOfForm managed Self.form Self.receipted admitted };

@@ -3,7 +3,7 @@
 
 ghost use Rattle.std.specs.Prelude.{◌≡◌, ◌≢◌, ℕ, List, [], true, IsSome, Some};
 ghost use Rattle.std.proofs.Common.{inl, inr, refl};
-ghost use Rattle.card_core.specs.Prelude.{AreCards, HasNoneFrom, HasRoomFor, IsAlone, IsRemovable, KeepsFree, LeavesOthers, Registry, RemovesLoaded, Represents, Well, aid_of, entry_pages, file_aid, held, managed_delete_object, of_form, without_applications, without_file, without_thing};
+ghost use Rattle.card_core.specs.Prelude.{AreCards, HasFramesFor, HasNoneFrom, IsAlone, IsRemovable, KeepsFree, LeavesOthers, Registry, RemovesLoaded, Represents, Well, aid_of, entry_pages, file_aid, managed_delete_object, of_form, thing_in, without_applications, without_file, without_thing};
 ghost use Rattle.card_types.specs.declared.factory.TheConstants.{FACTORY_FILE};
 ghost use Rattle.policy_rules.specs.declared.request.Request.TheVariants.{DeleteObject};
 
@@ -20,13 +20,13 @@ use registry::{remove_applications, remove_entry, remove_file};
 fn remove_loaded<F: Flash>(records: &mut Records<F>, slot: u8)
     requires live { records.old.live ≡ true }
     requires clean { records.old.staged ≡ [] }
-    requires slot { IsSome (held records.old.tables.files.items slot) }
+    requires slot { IsSome (thing_in records.old.tables.files.items slot) }
     requires other { file_aid records.old.tables.files.items slot ≢ FACTORY_FILE }
     ensures said { (page : ℕ → List ℕ) (said : Registry) → Represents page records.old.tables said → Well said → (aid : List ℕ)
         → aid_of records.old.tables (Found.File slot) ≡ Some aid → Represents page records.new.tables (without_file (without_applications said aid) aid) }
     ensures slots { RemovesLoaded records.old.tables records.new.tables slot }
     ensures same { (records.new.flash ≡ records.old.flash) × (records.new.live ≡ true) }
-    ensures room { HasRoomFor entry_pages records.new.staged }
+    ensures room { HasFramesFor entry_pages records.new.staged }
 {
     remove_applications(records, slot);
     remove_file(records, slot);
@@ -47,7 +47,7 @@ fn remove<F: Flash>(records: &mut Records<F>, thing: Found, related: bool)
     ensures free { KeepsFree records.old.tables records.new.tables }
     ensures cards { AreCards records.new.tables }
     ensures same { (records.new.flash ≡ records.old.flash) × (records.new.live ≡ true) }
-    ensures room { HasRoomFor entry_pages records.new.staged }
+    ensures room { HasFramesFor entry_pages records.new.staged }
 {
     match thing {
         Found::Entry(slot) => remove_entry(records, slot),

@@ -2,7 +2,7 @@
 
 ghost use Rattle.std.specs.Prelude.{◌≡◌, ◌<◌, ◌≤◌, ◌++◌, ◌+◌, ◌/◌, ℕ, List, false, true, map, take, IfOk, IfSome, IsSome, OnErr, OnOk};
 ghost use Rattle.std.specs.List.{concat};
-ghost use Rattle.card_core.specs.Prelude.{CardRepresents, HasCause, Holds256, IsInLoadPages, IsLoadPage, IsLoadRead, LeavesOnly, Reopens, State, file_of, held, load_page, sha256};
+ghost use Rattle.card_core.specs.Prelude.{CardRepresents, HasCause, Holds256, IsInLoadPages, IsLoadPage, IsLoadRead, LeavesOnly, Reopens, State, file_of, load_page, sha256, thing_in};
 
 use crate::card::Card;
 use card_types::{LoadFile, in_slot};
@@ -53,8 +53,8 @@ impl<F: Flash> Card<F> {
     /// SHA-256 (FIPS 180-4) over the bytes of the Executable Load File in a slot.
     pub fn file_digest(&mut self, slot: u8) -> Result<[u8; 32], FlashFailed>
         requires live { self.old.live ≡ true }
-        requires used { IsSome (held self.old.tables.files.items slot) }
-        ensures digest { F.tells → IfOk result (λ digest. IfSome (held self.old.tables.files.items slot)
+        requires used { IsSome (thing_in self.old.tables.files.items slot) }
+        ensures digest { F.tells → IfOk result (λ digest. IfSome (thing_in self.old.tables.files.items slot)
             (λ file. digest ≡ sha256 (file_of (load_page (F.pages self.old.flash)) self.old.tables.entries.items file).bytes)) }
         ensures same { (self.new.tables ≡ self.old.tables) × (self.new.channels ≡ self.old.channels) }
         ensures pages { F.tells → F.pages self.new.flash ≡ F.pages self.old.flash }

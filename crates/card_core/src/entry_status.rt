@@ -2,7 +2,7 @@
 //! with all that is below it (GlobalPlatform Card Specification 2.3.1, 5.3 and 11.10).
 
 ghost use Rattle.std.specs.Prelude.{◌≡◌, ℕ, List, [], true, IsSome, refl};
-ghost use Rattle.card_core.specs.Prelude.{IsFreeOfLoops, IsOther, MakesChange, Registry, Represents, SaysChange, StagesOthers, Well, held, slot_of};
+ghost use Rattle.card_core.specs.Prelude.{IsFreeOfLoops, IsOther, MakesChange, Registry, Represents, SaysChange, StagesOthers, Well, slot_of, thing_in};
 ghost use Rattle.policy_rules.specs.declared.request.Request.TheVariants.{EntryStatus};
 
 use crate::managed_request::{Acting, ManagedRequest};
@@ -16,7 +16,7 @@ use registry::{lock_tree, set_life};
 // Makes a change that was judged.
 fn make_change<F: Flash>(records: &mut Records<F>, change: StatusChange)
     requires live { records.old.live ≡ true }
-    requires slot { IsSome (held records.old.tables.entries.items (slot_of change)) }
+    requires slot { IsSome (thing_in records.old.tables.entries.items (slot_of change)) }
     requires other { IsOther records.old.tables.entries.items change }
     requires no_loops { IsFreeOfLoops records.old.tables.entries.items }
     requires clean { records.old.staged ≡ [] }

@@ -1,7 +1,7 @@
 //! The factory card on a device (this profile's own).
 
 ghost use Rattle.std.specs.Prelude.{◌≡◌, ◌<◌, ℕ, OnOk, slice_get};
-ghost use Rattle.card_core.specs.Prelude.{HasCause, Keeps, factory_registry};
+ghost use Rattle.card_core.specs.Prelude.{HasCause, KeepsRegistry, factory_registry};
 ghost use Rattle.page_journal.specs.declared.pages.TheConstants.{GATE};
 
 use card_types::{CardLife, factory_file, factory_key, issuer_domain};
@@ -12,7 +12,7 @@ use rec_store::lay_out;
 /// fails. Nothing is said of the device where power is lost before the call's end. Where the program ends between two of its
 /// writes, there is no card.
 pub fn format<F: Flash>(flash: &mut F) -> Result<(), FlashFailed>
-    ensures keeps { F.tells → OnOk result (Keeps F.Flash flash.new factory_registry) }
+    ensures keeps { F.tells → OnOk result (KeepsRegistry F.Flash flash.new factory_registry) }
     ensures others { F.tells → (page : ℕ) → GATE < page → slice_get (F.pages flash.new) page ≡ slice_get (F.pages flash.old) page }
     ensures cause { HasCause (F.faults flash.old) (F.faults flash.new) result }
 {

@@ -1,7 +1,7 @@
 //! Secure messaging: what a protected command is in plain, and the reply to it (GlobalPlatform Amendment D, 6.2).
 
 ghost use Rattle.std.specs.Prelude.{◌≡◌, ◌≤◌, length, IfOk, OnOk};
-ghost use Rattle.card_core.specs.Prelude.{IsInSession, OpensAs, RepresentsSecureChannel, SecureChannel, Secured, Session, apdu_of, array_vec_len, protected};
+ghost use Rattle.card_core.specs.Prelude.{IsInSession, OpensAs, RepresentsSecureChannel, SecureChannel, Secured, Session, apdu_of, array_vec_len, session_reply};
 ghost use Rattle.scp03_card.specs.declared.close.TheConstants.{DATA_LIMIT};
 
 use crate::channel_session::ChannelSession;
@@ -42,7 +42,7 @@ pub fn open_command(
 pub fn close_reply(held: &mut ChannelSession, status: Status, reply: &mut Reply)
     requires secured { IsInSession held.old }
     requires room { array_vec_len reply.old ≤ DATA_LIMIT }
-    ensures closed { (session : Session) → RepresentsSecureChannel held.old (Secured session) → reply.new.items ≡ protected session reply.old.items status.0 }
+    ensures closed { (session : Session) → RepresentsSecureChannel held.old (Secured session) → reply.new.items ≡ session_reply session reply.old.items status.0 }
     ensures same { held.new ≡ held.old }
 {
     if let ChannelSession::Secured(session) = held {

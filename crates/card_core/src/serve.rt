@@ -1,7 +1,7 @@
 //! What is done with a command (GlobalPlatform Card Specification 2.3.1, chapter 11).
 
 ghost use Rattle.std.specs.Prelude.{◌≡◌, ◌⊎◌, ◌<◌, ◌≤◌, ◌++◌, ◌==◌, ℕ, List, [], length, false, true, None, Some, Option, IsSome, Contains, OnOk, OnErr, IfOk, IfErr, IfSome, option_copied, slice_index_or};
-ghost use Rattle.card_core.specs.Prelude.{AreCards, AreFree, Bars, CarriesOut, ForCome, ForKept, HasPages, IsBuilt, IsInSession, IsKnown, IsOpenedIn, IsPassed, IsReady, IsSound, IsTerminatedFor, KeptRepresents, MayCommit, Passes, RepresentsSecureChannel, RepresentsSome, Secured, Serves, Session, State, apdu_of, changing, class_of, held_on, held_passed, kept_of, kept_set, live_passed, live_without_place, managing, plain_of, protected, rule_of, sent, status_bytes, status_word, with_due};
+ghost use Rattle.card_core.specs.Prelude.{AreCards, AreFree, Bars, CarriesOut, ForCome, ForKept, HasPages, IsBuilt, IsInSession, IsKnown, IsOpenedIn, IsPassed, IsReady, IsSound, IsTerminatedFor, KeptRepresents, MayCommit, Passes, RepresentsSecureChannel, RepresentsSome, Secured, Serves, Session, State, apdu_of, changing, class_of, held_on, held_passed, kept_of, kept_set, live_passed, live_without_place, managing, plain_of, reply_bytes, rule_of, session_reply, status_bytes, status_word, with_due};
 ghost use Rattle.policy_machine.specs.Classes.{is_protected as is_protected_command};
 ghost use Rattle.policy_machine.specs.declared.instruction.TheConstants.{GET_DATA, GET_STATUS, INITIALIZE_UPDATE};
 ghost use Rattle.scp03_card.specs.declared.close.TheConstants.{DATA_LIMIT};
@@ -187,7 +187,7 @@ fn close_plain(served: Answer, reply: &mut Reply) -> Option<Rule>
 fn close_protected(served: Answer, held: &mut ChannelSession, reply: &mut Reply) -> Option<Rule>
     requires secured { IsInSession held.old }
     requires room { length reply.old.items ≤ DATA_LIMIT }
-    ensures closed { (session : Session) → RepresentsSecureChannel held.old (Secured session) → reply.new.items ≡ protected session reply.old.items (status_word served) }
+    ensures closed { (session : Session) → RepresentsSecureChannel held.old (Secured session) → reply.new.items ≡ session_reply session reply.old.items (status_word served) }
     ensures rule { result ≡ rule_of served }
     ensures same { held.new ≡ held.old }
 {
@@ -212,7 +212,7 @@ fn close(
 ) -> Option<Rule>
     requires secured { IfSome opened (λ count. IsInSession held.old) }
     requires room { length reply.old.items ≤ DATA_LIMIT }
-    ensures closed { (session : Option Session) → IsOpenedIn opened held.old session → reply.new.items ≡ sent session reply.old.items (status_word served) }
+    ensures closed { (session : Option Session) → IsOpenedIn opened held.old session → reply.new.items ≡ reply_bytes session reply.old.items (status_word served) }
     ensures rule { result ≡ rule_of served }
     ensures same { held.new ≡ held.old }
 {

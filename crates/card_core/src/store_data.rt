@@ -1,7 +1,7 @@
 //! STORE DATA: data objects of a domain are put (GlobalPlatform Card Specification 2.3.1, 11.11).
 
 ghost use Rattle.std.specs.Prelude.{◌≡◌, ◌<◌, ◌≤◌, length, true, false, Some, refl};
-ghost use Rattle.card_core.specs.Prelude.{HasRoomFor, IsSlotFor, PutsObject, has_object_in, is_tagged_in, object_pages, object_with, used};
+ghost use Rattle.card_core.specs.Prelude.{HasFramesFor, IsSlotFor, PutsObject, has_object_in, is_tagged_in, object_pages, object_with, things_in};
 ghost use Rattle.card_types.specs.declared.limits.TheConstants.{OBJECTS};
 ghost use Rattle.policy_rules.specs.declared.request.Request.TheVariants.{Store};
 
@@ -33,7 +33,7 @@ impl Wants<Object> for Tagged {
 // The slot of the domain's data object with a tag, or else the first free slot.
 fn slot_for(objects: &[Option<Object>], owner: u8, tag: u16) -> u8
     requires slots { length objects.now ≡ OBJECTS }
-    requires room { has_object_in objects.now owner tag ≡ false → length (used objects.now) < OBJECTS }
+    requires room { has_object_in objects.now owner tag ≡ false → length (things_in objects.now) < OBJECTS }
     ensures { IsSlotFor objects.now owner tag result }
 {
     match first_that(objects, &Tagged { owner, tag }) {
@@ -59,11 +59,11 @@ fn object_of(owner: u8, element: &Tlv<'_>) -> Object
 // Puts a data object of the domain in a slot, in the place of the one with its tag.
 fn put_object<F: Flash>(records: &mut Records<F>, owner: u8, element: &Tlv<'_>)
     requires live { records.old.live ≡ true }
-    requires frames { HasRoomFor object_pages records.old.staged }
+    requires frames { HasFramesFor object_pages records.old.staged }
     requires size { length element.now.value.now ≤ 120 }
-    requires room { has_object_in records.old.tables.objects.items owner element.now.tag ≡ false → length (used records.old.tables.objects.items) < OBJECTS }
+    requires room { has_object_in records.old.tables.objects.items owner element.now.tag ≡ false → length (things_in records.old.tables.objects.items) < OBJECTS }
     ensures put { PutsObject records.old.tables records.new.tables owner element.now.tag element.now.value.now }
-    ensures frames { HasRoomFor object_pages records.new.staged }
+    ensures frames { HasFramesFor object_pages records.new.staged }
     ensures same { (records.new.flash ≡ records.old.flash) × (records.new.live ≡ true) }
 {
     let slot = slot_for(&records.tables().objects, owner, element.tag);

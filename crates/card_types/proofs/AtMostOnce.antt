@@ -72,8 +72,8 @@ module _ {X : Type 0} (order : X → X → Ordering) (total : IsTotalOrder order
   ]
 
   -- what is after the first is not the first
-  other_behind : (x z : X) (xs : List X) → AtMostOnce (x ∷ xs) → Contains xs z → x ≡ z → ⊥
-  other_behind x z xs once there same =
+  other_after : (x z : X) (xs : List X) → AtMostOnce (x ∷ xs) → Contains xs z → x ≡ z → ⊥
+  other_after x z xs once there same =
       let one = tie_at z x (ap (λ y. order y z) same ∙ tied_itself total z) in
       let two = counted z z xs there (tied_itself total z) in
       omega (arith, once z, sum_by-cons (tie order total z) x xs)
@@ -89,11 +89,11 @@ module _ {X : Type 0} (order : X → X → Ordering) (total : IsTotalOrder order
       let once : AtMostOnce (x ∷ rest) = λ k. omega (arith, once_y k, sum_by-IsPermutation (tie order total k) ys (x ∷ rest) out) in
       let behind = same_members xs rest (rest_once x xs once_x) (rest_once x rest once)
       (λ z there. elim (contains_cases x rest z (Contains-permutation ys (x ∷ rest) z out (to z (contains_later x xs z there)))) [
-        | inl same ↦ absurd (other_behind x z xs once_x there same)
+        | inl same ↦ absurd (other_after x z xs once_x there same)
         | inr later ↦ later
       ])
       (λ z there. elim (contains_cases x xs z (from z (Contains-permutation (x ∷ rest) ys z (IsPermutation-sym ys (x ∷ rest) out) (contains_later x rest z there)))) [
-        | inl same ↦ absurd (other_behind x z rest once there same)
+        | inl same ↦ absurd (other_after x z rest once there same)
         | inr later ↦ later
       ]) in
       IsPermutation-trans (x ∷ xs) (x ∷ rest) ys (IsPermutation-cons x xs rest behind) (IsPermutation-sym ys (x ∷ rest) out)

@@ -9,7 +9,7 @@ use Rattle.std.proofs.lemmas.List.{get_or-set_other, get_or-set_same}
 use Rattle.card_types.specs.Aid.{aid_order}
 use Rattle.card_types.specs.RegistryChange.{IsChanged}
 use Rattle.card_types.specs.Registry as registry
-use Rattle.card_types.specs.Represents.{Represents, counter_of, domain_aid, entry_of, file_of, keeps_counter, key_of, object_of, used, held}
+use Rattle.card_types.specs.Represents.{Represents, counter_of, domain_aid, entry_of, file_of, keeps_counter, key_of, object_of, things_in, thing_in}
 use Rattle.card_types.specs.SlotChange.{SetsEntry}
 use Rattle.card_types.specs.Well.{Well}
 use Rattle.card_types.specs.declared.tables.Entry.{Entry}
@@ -23,22 +23,22 @@ use Rattle.card_types.proofs.LeastOfList.{names_sorted}
 
 -- the slots of the domains that things name have the same AIDs
 pub record KeepsDomains (before after : Tables) : Type 0 where
-  pub entries : (slot : ℕ) (entry : Entry) → held after.entries.items slot ≡ Some entry → domain_aid after.entries.items entry.domain ≡ domain_aid before.entries.items entry.domain
-  pub files : (slot : ℕ) (file : LoadFile) → held before.files.items slot ≡ Some file → domain_aid after.entries.items file.domain ≡ domain_aid before.entries.items file.domain
-  pub keys : (slot : ℕ) (key : KeyRec) → held before.keys.items slot ≡ Some key → domain_aid after.entries.items key.owner ≡ domain_aid before.entries.items key.owner
-  pub objects : (slot : ℕ) (object : Object) → held before.objects.items slot ≡ Some object → domain_aid after.entries.items object.owner ≡ domain_aid before.entries.items object.owner
+  pub entries : (slot : ℕ) (entry : Entry) → thing_in after.entries.items slot ≡ Some entry → domain_aid after.entries.items entry.domain ≡ domain_aid before.entries.items entry.domain
+  pub files : (slot : ℕ) (file : LoadFile) → thing_in before.files.items slot ≡ Some file → domain_aid after.entries.items file.domain ≡ domain_aid before.entries.items file.domain
+  pub keys : (slot : ℕ) (key : KeyRec) → thing_in before.keys.items slot ≡ Some key → domain_aid after.entries.items key.owner ≡ domain_aid before.entries.items key.owner
+  pub objects : (slot : ℕ) (object : Object) → thing_in before.objects.items slot ≡ Some object → domain_aid after.entries.items object.owner ≡ domain_aid before.entries.items object.owner
 
 -- no other thing names the slot as its domain
 pub record NoneNames (tables : Tables) (domain : ℕ) : Type 0 where
-  pub entries : (slot : ℕ) (entry : Entry) → slot ≢ domain → held tables.entries.items slot ≡ Some entry → entry.domain ≢ domain
-  pub files : (slot : ℕ) (file : LoadFile) → held tables.files.items slot ≡ Some file → file.domain ≢ domain
-  pub keys : (slot : ℕ) (key : KeyRec) → held tables.keys.items slot ≡ Some key → key.owner ≢ domain
-  pub objects : (slot : ℕ) (object : Object) → held tables.objects.items slot ≡ Some object → object.owner ≢ domain
+  pub entries : (slot : ℕ) (entry : Entry) → slot ≢ domain → thing_in tables.entries.items slot ≡ Some entry → entry.domain ≢ domain
+  pub files : (slot : ℕ) (file : LoadFile) → thing_in tables.files.items slot ≡ Some file → file.domain ≢ domain
+  pub keys : (slot : ℕ) (key : KeyRec) → thing_in tables.keys.items slot ≡ Some key → key.owner ≢ domain
+  pub objects : (slot : ℕ) (object : Object) → thing_in tables.objects.items slot ≡ Some object → object.owner ≢ domain
 
 -- tables of which the entries alone are others, and whose things name domains with the same AIDs
 pub entries_alone : (page : ℕ → List ℕ) (before after : Tables) (said : registry.Registry) → Represents page before said → after.life ≡ before.life
     → after.files.items ≡ before.files.items → after.keys.items ≡ before.keys.items → after.objects.items ≡ before.objects.items → KeepsDomains before after
-    → (entries : List registry.Entry) → IsPermutation (map (entry_of after.entries.items after.files.items) (used after.entries.items)) entries
+    → (entries : List registry.Entry) → IsPermutation (map (entry_of after.entries.items after.files.items) (things_in after.entries.items)) entries
     → IsStrictlySortedBy aid_order (map (λ entry. entry.aid) entries) → Represents page after (record said { entries = entries })
 entries_alone page before after said says life files keys objects keeps entries same ascending = record {
   life = life ∙ says.life;
@@ -64,7 +64,7 @@ module _ (page : ℕ → List ℕ) (before after : Tables) (said : registry.Regi
   -- the entries are those with that one change
   pub entry_changed : (entry : Option Entry) (entries : List registry.Entry)
       → slot < length before.entries.items → SetsEntry before after slot entry → KeepsDomains before after
-      → IsChanged (λ x y. aid_order x.aid y.aid) (option_map (entry_of before.entries.items before.files.items) (held before.entries.items slot))
+      → IsChanged (λ x y. aid_order x.aid y.aid) (option_map (entry_of before.entries.items before.files.items) (thing_in before.entries.items slot))
       (option_map (entry_of before.entries.items before.files.items) entry) said.entries entries
       → Represents page after (record said { entries = entries })
   entry_changed entry entries within set keeps changed =
@@ -75,27 +75,27 @@ module _ (page : ℕ → List ℕ) (before after : Tables) (said : registry.Regi
       (names_sorted aid_order (λ (e : registry.Entry). e.aid) entries changed.ascending)
 
   -- another slot holds what it held
-  pub other_slot : (entry : Option Entry) → SetsEntry before after slot entry → (other : ℕ) → other ≢ slot → held after.entries.items other ≡ held before.entries.items other
-  other_slot entry set other apart = ap (λ (es : List (Option Entry)). held es other) set.entries ∙ get_or-set_other before.entries.items slot other entry None apart
+  pub other_slot : (entry : Option Entry) → SetsEntry before after slot entry → (other : ℕ) → other ≢ slot → thing_in after.entries.items other ≡ thing_in before.entries.items other
+  other_slot entry set other apart = ap (λ (es : List (Option Entry)). thing_in es other) set.entries ∙ get_or-set_other before.entries.items slot other entry None apart
 
   other_aid : (entry : Option Entry) → SetsEntry before after slot entry → (other : ℕ) → other ≢ slot → domain_aid after.entries.items other ≡ domain_aid before.entries.items other
   other_aid entry set other apart = ap (λ (o : Option Entry). unwrap_or (option_map (λ e. e.aid) o) []) (other_slot entry set other apart)
 
   -- what the slot holds then
-  pub this_slot : (entry : Option Entry) → slot < length before.entries.items → SetsEntry before after slot entry → held after.entries.items slot ≡ entry
-  this_slot entry within set = ap (λ (es : List (Option Entry)). held es slot) set.entries ∙ get_or-set_same before.entries.items slot entry None within
+  pub this_slot : (entry : Option Entry) → slot < length before.entries.items → SetsEntry before after slot entry → thing_in after.entries.items slot ≡ entry
+  this_slot entry within set = ap (λ (es : List (Option Entry)). thing_in es slot) set.entries ∙ get_or-set_same before.entries.items slot entry None within
 
   -- an entry in a slot that was free
   pub keeps_domains_put : Well said → (entry domain : Entry) → slot < length before.entries.items → SetsEntry before after slot (Some entry)
-      → held before.entries.items slot ≡ None → held before.entries.items entry.domain ≡ Some domain → KeepsDomains before after
+      → thing_in before.entries.items slot ≡ None → thing_in before.entries.items entry.domain ≡ Some domain → KeepsDomains before after
   keeps_domains_put well entry domain within set free there = record {
     entries = λ s e at. elim (cases_eq s slot) [
       | inl same ↦
-          (let held_here : held after.entries.items slot ≡ Some e = subst (λ (n : ℕ). held after.entries.items n ≡ Some e) same at in
+          (let held_here : thing_in after.entries.items slot ≡ Some e = subst (λ (n : ℕ). thing_in after.entries.items n ≡ Some e) same at in
           let alike : entry ≡ e = (let here = this_slot (Some entry) within set in cc) in
           subst (λ (x : Entry). domain_aid after.entries.items x.domain ≡ domain_aid before.entries.items x.domain) alike (used_kept entry.domain domain there))
       | inr other ↦
-          (let was : held before.entries.items s ≡ Some e = sym (other_slot (Some entry) set s other) ∙ at in
+          (let was : thing_in before.entries.items s ≡ Some e = sym (other_slot (Some entry) set s other) ∙ at in
           let used = domain_is_used page before said says well s e was in
           used_kept e.domain used.0 used.1)
     ];
@@ -104,12 +104,12 @@ module _ (page : ℕ → List ℕ) (before after : Tables) (said : registry.Regi
     objects = λ s object at. (let used = object_owner_is_used page before said says well s object at in used_kept object.owner used.0 used.1);
   }
     where
-      used_kept : (s : ℕ) (x : Entry) → held before.entries.items s ≡ Some x → domain_aid after.entries.items s ≡ domain_aid before.entries.items s
-      used_kept s x used = other_aid (Some entry) set s (λ same. (let none = ap (held before.entries.items) same in cc))
+      used_kept : (s : ℕ) (x : Entry) → thing_in before.entries.items s ≡ Some x → domain_aid after.entries.items s ≡ domain_aid before.entries.items s
+      used_kept s x used = other_aid (Some entry) set s (λ same. (let none = ap (thing_in before.entries.items) same in cc))
 
   -- an entry in place of one with its AID
   pub keeps_domains_replaced : (was entry : Entry) → slot < length before.entries.items → SetsEntry before after slot (Some entry)
-      → held before.entries.items slot ≡ Some was → entry.aid ≡ was.aid → KeepsDomains before after
+      → thing_in before.entries.items slot ≡ Some was → entry.aid ≡ was.aid → KeepsDomains before after
   keeps_domains_replaced was entry within set at alike = record {
     entries = λ s e there. kept e.domain;
     files = λ s file there. kept file.domain;
@@ -132,7 +132,7 @@ module _ (page : ℕ → List ℕ) (before after : Tables) (said : registry.Regi
     entries = λ s e at. elim (cases_eq s slot) [
       | inl same ↦
           (let gone = this_slot None within set in
-          let here : held after.entries.items slot ≡ Some e = subst (λ (n : ℕ). held after.entries.items n ≡ Some e) same at in cc)
+          let here : thing_in after.entries.items slot ≡ Some e = subst (λ (n : ℕ). thing_in after.entries.items n ≡ Some e) same at in cc)
       | inr other ↦ other_aid None set e.domain (none.entries s e other (sym (other_slot None set s other) ∙ at))
     ];
     files = λ s file at. other_aid None set file.domain (none.files s file at);

@@ -8,7 +8,7 @@ use Rattle.std.proofs.lemmas.List.{get_or-set_other, get_or-set_same}
 use Rattle.card_types.specs.Aid.{aid_order}
 use Rattle.card_types.specs.RegistryChange.{IsChanged}
 use Rattle.card_types.specs.Registry as registry
-use Rattle.card_types.specs.Represents.{Represents, counter_of, entry_of, file_aid, file_of, keeps_counter, key_of, object_of, held}
+use Rattle.card_types.specs.Represents.{Represents, counter_of, entry_of, file_aid, file_of, keeps_counter, key_of, object_of, thing_in}
 use Rattle.card_types.specs.SlotChange.{SetsFile}
 use Rattle.card_types.specs.Well.{Well}
 use Rattle.card_types.specs.declared.tables.Entry.{Entry}
@@ -20,18 +20,18 @@ use Rattle.card_types.proofs.LeastOfList.{names_sorted}
 
 -- the slots of the files that entries name have the same AIDs
 abbrev pub KeepsFiles : Tables → Tables → Type 0
-KeepsFiles before after = (slot : ℕ) (entry : Entry) → held before.entries.items slot ≡ Some entry → file_aid after.files.items entry.file ≡ file_aid before.files.items entry.file
+KeepsFiles before after = (slot : ℕ) (entry : Entry) → thing_in before.entries.items slot ≡ Some entry → file_aid after.files.items entry.file ≡ file_aid before.files.items entry.file
 
 -- the pages hold what they held for the files that were there
 abbrev pub KeepsPages : (ℕ → List ℕ) → (ℕ → List ℕ) → Tables → Type 0
 KeepsPages page page' before =
-    (slot : ℕ) (file : LoadFile) → held before.files.items slot ≡ Some file → file_of page' before.entries.items file ≡ file_of page before.entries.items file
+    (slot : ℕ) (file : LoadFile) → thing_in before.files.items slot ≡ Some file → file_of page' before.entries.items file ≡ file_of page before.entries.items file
 
 module _ (page page' : ℕ → List ℕ) (before after : Tables) (said : registry.Registry) (says : Represents page before said) (slot : ℕ) where
   -- the load files are those with that one change
   pub file_changed : (file : Option LoadFile) (files : List registry.LoadFile)
       → slot < length before.files.items → SetsFile before after slot file → KeepsFiles before after → KeepsPages page page' before
-      → IsChanged (λ x y. aid_order x.aid y.aid) (option_map (file_of page' before.entries.items) (held before.files.items slot))
+      → IsChanged (λ x y. aid_order x.aid y.aid) (option_map (file_of page' before.entries.items) (thing_in before.files.items slot))
       (option_map (file_of page' before.entries.items) file) said.files files
       → Represents page' after (record said { files = files })
   file_changed file files within set keeps pages changed = record {
@@ -60,26 +60,26 @@ module _ (page page' : ℕ → List ℕ) (before after : Tables) (said : registr
   other_file : (file : Option LoadFile) → SetsFile before after slot file → (other : ℕ) → other ≢ slot → file_aid after.files.items other ≡ file_aid before.files.items other
   other_file file set other apart =
       ap (λ (o : Option LoadFile). unwrap_or (option_map (λ f. f.aid) o) [])
-      (ap (λ (fs : List (Option LoadFile)). held fs other) set.files ∙ get_or-set_other before.files.items slot other file None apart)
+      (ap (λ (fs : List (Option LoadFile)). thing_in fs other) set.files ∙ get_or-set_other before.files.items slot other file None apart)
 
   -- a file in a slot that was free
-  pub keeps_files_put : Well said → (file : LoadFile) → SetsFile before after slot (Some file) → held before.files.items slot ≡ None → KeepsFiles before after
+  pub keeps_files_put : Well said → (file : LoadFile) → SetsFile before after slot (Some file) → thing_in before.files.items slot ≡ None → KeepsFiles before after
   keeps_files_put well file set free s entry at =
       let used = loaded_file_is_used page before said says well s entry at in
-      other_file (Some file) set entry.file (λ same. (let none = ap (held before.files.items) same in let there = used.1 in cc))
+      other_file (Some file) set entry.file (λ same. (let none = ap (thing_in before.files.items) same in let there = used.1 in cc))
 
   -- a file in place of one with its AID
   pub keeps_files_replaced : (was file : LoadFile) → slot < length before.files.items → SetsFile before after slot (Some file)
-      → held before.files.items slot ≡ Some was → file.aid ≡ was.aid → KeepsFiles before after
+      → thing_in before.files.items slot ≡ Some was → file.aid ≡ was.aid → KeepsFiles before after
   keeps_files_replaced was file within set at alike s entry there = elim (cases_eq entry.file slot) [
     | inl same ↦
         (let aid = λ (fs : List (Option LoadFile)) (n : ℕ). file_aid fs n in
-        let here : held after.files.items slot ≡ Some file = ap (λ (fs : List (Option LoadFile)). held fs slot) set.files ∙ get_or-set_same before.files.items slot (Some file) None within in
+        let here : thing_in after.files.items slot ≡ Some file = ap (λ (fs : List (Option LoadFile)). thing_in fs slot) set.files ∙ get_or-set_same before.files.items slot (Some file) None within in
         ap (aid after.files.items) same ∙ ap (λ (o : Option LoadFile). unwrap_or (option_map (λ f. f.aid) o) []) here ∙ alike
         ∙ sym (ap (λ (o : Option LoadFile). unwrap_or (option_map (λ f. f.aid) o) []) at) ∙ ap (aid before.files.items) (sym same))
     | inr other ↦ other_file (Some file) set entry.file other
   ]
 
   -- a file taken out that no entry names
-  pub keeps_files_removed : SetsFile before after slot None → ((s : ℕ) (entry : Entry) → held before.entries.items s ≡ Some entry → entry.file ≢ slot) → KeepsFiles before after
+  pub keeps_files_removed : SetsFile before after slot None → ((s : ℕ) (entry : Entry) → thing_in before.entries.items s ≡ Some entry → entry.file ≢ slot) → KeepsFiles before after
   keeps_files_removed set none s entry at = other_file None set entry.file (none s entry at)

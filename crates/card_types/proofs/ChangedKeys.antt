@@ -4,7 +4,7 @@ use Rattle.std.specs.Option.{option_map}
 use Rattle.card_types.specs.Registry.{counter_order, key_order, object_order}
 use Rattle.card_types.specs.RegistryChange.{IsChanged}
 use Rattle.card_types.specs.Registry as registry
-use Rattle.card_types.specs.Represents.{Represents, counter_of, entry_of, file_of, keeps_counter, key_of, object_of, held}
+use Rattle.card_types.specs.Represents.{Represents, counter_of, entry_of, file_of, keeps_counter, key_of, object_of, thing_in}
 use Rattle.card_types.specs.SlotChange.{SetsKey, SetsObject}
 use Rattle.card_types.specs.declared.tables.KeyRec.{KeyRec}
 use Rattle.card_types.specs.declared.tables.Object.{Object}
@@ -17,8 +17,8 @@ module _ (page : ℕ → List ℕ) (before after : Tables) (said : registry.Regi
   -- the keys and counters are those with that one change
   pub key_changed : (key : Option KeyRec) (keys : List registry.Key) (counters : List registry.Counter)
       → slot < length before.keys.items → SetsKey before after slot key
-      → IsChanged key_order (option_map (key_of before.entries.items) (held before.keys.items slot)) (option_map (key_of before.entries.items) key) said.keys keys
-      → IsChanged counter_order (shown (counter_of before.entries.items) keeps_counter (held before.keys.items slot)) (shown (counter_of before.entries.items) keeps_counter key) said.counters counters
+      → IsChanged key_order (option_map (key_of before.entries.items) (thing_in before.keys.items slot)) (option_map (key_of before.entries.items) key) said.keys keys
+      → IsChanged counter_order (shown (counter_of before.entries.items) keeps_counter (thing_in before.keys.items slot)) (shown (counter_of before.entries.items) keeps_counter key) said.counters counters
       → Represents page after (record said { keys = keys; counters = counters })
   key_changed key keys counters within set changed_keys changed_counters = record {
     life = set.life ∙ says.life;
@@ -44,7 +44,7 @@ module _ (page : ℕ → List ℕ) (before after : Tables) (said : registry.Regi
   -- the objects are those with that one change
   pub object_changed : (object : Option Object) (objects : List registry.Object)
       → slot < length before.objects.items → SetsObject before after slot object
-      → IsChanged object_order (option_map (object_of before.entries.items) (held before.objects.items slot)) (option_map (object_of before.entries.items) object) said.objects objects
+      → IsChanged object_order (option_map (object_of before.entries.items) (thing_in before.objects.items slot)) (option_map (object_of before.entries.items) object) said.objects objects
       → Represents page after (record said { objects = objects })
   object_changed object objects within set changed = record {
     life = set.life ∙ says.life;

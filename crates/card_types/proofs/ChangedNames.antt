@@ -74,10 +74,10 @@ module _ {X : Type 0} (order : X → X → Ordering) (total : IsTotalOrder order
       (λ z there. (let kept = filtered p vs z there in contains_filter p us z (Contains-permutation vs us z (IsPermutation-sym us vs same) kept.0) kept.1))
 
   module _ (fits : X → Bool) (x : X) (alone : (y : X) → fits y ≡ true → order x y ≡ Equal) where
-    none_behind : (ys : List X) → ((y : X) → Contains ys y → order x y ≡ Less) → filter (λ y. not (fits y)) ys ≡ ys
-    none_behind [] below = refl
-    none_behind (y ∷ ys) below =
-        let rest = none_behind ys (λ z there. below z (contains_later y ys z there)) in
+    none_after : (ys : List X) → ((y : X) → Contains ys y → order x y ≡ Less) → filter (λ y. not (fits y)) ys ≡ ys
+    none_after [] below = refl
+    none_after (y ∷ ys) below =
+        let rest = none_after ys (λ z there. below z (contains_later y ys z there)) in
         elim (cases_Bool (fits y)) [
           | inl fit ↦ (let tied = alone y fit in let less = below y (contains_first y ys) in cc)
           | inr misfit ↦ rw (misfit, rest) refl
@@ -89,7 +89,7 @@ module _ {X : Type 0} (order : X → X → Ordering) (total : IsTotalOrder order
     one_removed (y ∷ ys) fit sorted there = elim (contains_cases y ys x there) [
       | inl same ↦
           (let first : fits y ≡ true = ap fits same ∙ fit in
-          let behind = none_behind ys (λ z later. ap (λ a. order a z) (sym same) ∙ first_below order y ys sorted z later) in
+          let behind = none_after ys (λ z later. ap (λ a. order a z) (sym same) ∙ first_below order y ys sorted z later) in
           rw (first, behind) (subst (λ (z : X). IsPermutation (y ∷ ys) (z ∷ ys)) same (IsPermutation-refl (y ∷ ys))))
       | inr later ↦
           (let above : order x y ≡ Greater = total.antisymm x y ∙ ap ordering_reverse (first_below order y ys sorted x later) in

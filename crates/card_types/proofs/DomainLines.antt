@@ -4,7 +4,7 @@ use Rattle.std.specs.Prelude.{map}
 use Rattle.card_types.specs.Hierarchy.{IsLine}
 use Rattle.card_types.specs.Registry as registry
 use Rattle.card_types.specs.Registry.{domain_of}
-use Rattle.card_types.specs.Represents.{Represents, domain_aid, domain_slot, held}
+use Rattle.card_types.specs.Represents.{Represents, domain_aid, domain_slot, thing_in}
 use Rattle.card_types.specs.Well.{Well}
 use Rattle.card_types.specs.declared.tables.Entry.{Entry}
 use Rattle.card_types.specs.declared.tables.Tables.{Tables}
@@ -28,7 +28,7 @@ module _ (page : ℕ → List ℕ) (tables : Tables) (said : registry.Registry) 
       )
 
   -- a line by names is a line by slots
-  line_back : Well said → (slot : ℕ) (entry : Entry) (line : List (List ℕ)) → held tables.entries.items slot ≡ Some entry
+  line_back : Well said → (slot : ℕ) (entry : Entry) (line : List (List ℕ)) → thing_in tables.entries.items slot ≡ Some entry
       → IsLine (domain_of said) (domain_aid tables.entries.items slot) line → (slots : List ℕ) × IsLine (domain_slot tables.entries.items) slot slots
   line_back well slot entry [] at line = absurd line
   line_back well slot entry (first ∷ []) at line =
@@ -48,7 +48,7 @@ module _ (page : ℕ → List ℕ) (tables : Tables) (said : registry.Registry) 
       (slot ∷ behind.0, line_more (domain_slot tables.entries.items) slot entry.domain behind.0 steps other behind.1)
 
   -- each entry has a line of slots
-  pub line_in_slots : Well said → (slot : ℕ) (entry : Entry) → held tables.entries.items slot ≡ Some entry
+  pub line_in_slots : Well said → (slot : ℕ) (entry : Entry) → thing_in tables.entries.items slot ≡ Some entry
       → (line : List ℕ) × IsLine (domain_slot tables.entries.items) slot line
   line_in_slots well slot entry at =
       let leads = (well_entry page tables said says well slot entry at).line in

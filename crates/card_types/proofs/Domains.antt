@@ -8,7 +8,7 @@ use Rattle.card_types.specs.Aid.{IsAid, same_aid}
 use Rattle.card_types.specs.Privileges.{has, security_domain}
 use Rattle.card_types.specs.Registry as registry
 use Rattle.card_types.specs.Registry.{domain_of, entry_named, file_named, is_domain}
-use Rattle.card_types.specs.Represents.{Represents, domain_aid, domain_slot, entry_of, file_aid, file_of, key_of, object_of, held}
+use Rattle.card_types.specs.Represents.{Represents, domain_aid, domain_slot, entry_of, file_aid, file_of, key_of, object_of, thing_in}
 use Rattle.card_types.specs.Well.{IsDomainNamed, IsWellEntry, IsWellFile, IsWellKey, IsWellObject, Well}
 use Rattle.card_types.specs.declared.tables.Entry.{Entry}
 use Rattle.card_types.specs.declared.tables.LoadFile.{LoadFile}
@@ -21,25 +21,25 @@ use Rattle.card_types.proofs.SameAid.{same_aid_decides}
 use Rattle.card_types.proofs.Shows.{shows_used}
 
 -- the AID of a used slot
-pub domain_aid_is : (entries : List (Option Entry)) (slot : ℕ) (entry : Entry) → held entries slot ≡ Some entry → domain_aid entries slot ≡ entry.aid
+pub domain_aid_is : (entries : List (Option Entry)) (slot : ℕ) (entry : Entry) → thing_in entries slot ≡ Some entry → domain_aid entries slot ≡ entry.aid
 domain_aid_is entries slot entry at = ap (λ (o : Option Entry). unwrap_or (option_map (λ e. e.aid) o) []) at
 
 -- a slot with a step is used
 pub used_from_step : (entries : List (Option Entry)) (slot next : ℕ) → domain_slot entries slot ≡ Some next
-    → (entry : Entry) × (held entries slot ≡ Some entry) × (entry.domain ≡ next)
-used_from_step entries slot next steps = by (held entries slot) refl steps
+    → (entry : Entry) × (thing_in entries slot ≡ Some entry) × (entry.domain ≡ next)
+used_from_step entries slot next steps = by (thing_in entries slot) refl steps
   where
-    by : (o : Option Entry) → held entries slot ≡ o → option_map (λ e. e.domain) o ≡ Some next
-        → (entry : Entry) × (held entries slot ≡ Some entry) × (entry.domain ≡ next)
+    by : (o : Option Entry) → thing_in entries slot ≡ o → option_map (λ e. e.domain) o ≡ Some next
+        → (entry : Entry) × (thing_in entries slot ≡ Some entry) × (entry.domain ≡ next)
     by None is steps = cc
     by (Some entry) is steps = (entry, is, cc)
 
-pub step_from_used : (entries : List (Option Entry)) (slot : ℕ) (entry : Entry) → held entries slot ≡ Some entry → domain_slot entries slot ≡ Some entry.domain
+pub step_from_used : (entries : List (Option Entry)) (slot : ℕ) (entry : Entry) → thing_in entries slot ≡ Some entry → domain_slot entries slot ≡ Some entry.domain
 step_from_used entries slot entry at = ap (option_map (λ e. e.domain)) at
 
 module _ (page : ℕ → List ℕ) (tables : Tables) (said : registry.Registry) (says : Represents page tables said) where
   -- two used slots with one AID are one
-  pub same_domain : (a b : ℕ) (x y : Entry) → held tables.entries.items a ≡ Some x → held tables.entries.items b ≡ Some y
+  pub same_domain : (a b : ℕ) (x y : Entry) → thing_in tables.entries.items a ≡ Some x → thing_in tables.entries.items b ≡ Some y
       → domain_aid tables.entries.items a ≡ domain_aid tables.entries.items b → a ≡ b
   same_domain a b x y at_a at_b alike =
       one_entry_slot page tables said says a b x y at_a at_b
@@ -56,7 +56,7 @@ module _ (page : ℕ → List ℕ) (tables : Tables) (said : registry.Registry) 
 
   module _ (well : Well said) where
     -- what is so of the entry in a used slot
-    pub well_entry : (slot : ℕ) (entry : Entry) → held tables.entries.items slot ≡ Some entry → IsWellEntry said (entry_of tables.entries.items tables.files.items entry)
+    pub well_entry : (slot : ℕ) (entry : Entry) → thing_in tables.entries.items slot ≡ Some entry → IsWellEntry said (entry_of tables.entries.items tables.files.items entry)
     well_entry slot entry at =
         All-contains (IsWellEntry said) said.entries _ well.entries
         (found_fits (λ e. same_aid e.aid entry.aid) said.entries (entry_of tables.entries.items tables.files.items entry) (entry_in_slot page tables said says slot entry at)).0
@@ -86,11 +86,11 @@ module _ (page : ℕ → List ℕ) (tables : Tables) (said : registry.Registry) 
 
     -- a slot that a domain is named by holds that domain
     pub domain_named_is_used : (slot : ℕ) → IsDomainNamed said (domain_aid tables.entries.items slot)
-        → (domain : Entry) × (held tables.entries.items slot ≡ Some domain) × (has security_domain domain.privileges ≡ true)
-    domain_named_is_used slot named = by (held tables.entries.items slot) refl
+        → (domain : Entry) × (thing_in tables.entries.items slot ≡ Some domain) × (has security_domain domain.privileges ≡ true)
+    domain_named_is_used slot named = by (thing_in tables.entries.items slot) refl
       where
-        by : (o : Option Entry) → held tables.entries.items slot ≡ o
-            → (domain : Entry) × (held tables.entries.items slot ≡ Some domain) × (has security_domain domain.privileges ≡ true)
+        by : (o : Option Entry) → thing_in tables.entries.items slot ≡ o
+            → (domain : Entry) × (thing_in tables.entries.items slot ≡ Some domain) × (has security_domain domain.privileges ≡ true)
         by None at =
             (let empty : domain_aid tables.entries.items slot ≡ [] = ap (λ (o : Option Entry). unwrap_or (option_map (λ e. e.aid) o) []) at in
             absurd (none_unnamed (subst (IsDomainNamed said) empty named)))
@@ -99,34 +99,34 @@ module _ (page : ℕ → List ℕ) (tables : Tables) (said : registry.Registry) 
             (domain, at, MatchOption-at_some ⊥ (λ entry. is_domain entry ≡ true) _ (entry_in_slot page tables said says slot domain at) here))
 
     -- the load file of an entry is in its slot
-    pub loaded_file_is_used : (slot : ℕ) (entry : Entry) → held tables.entries.items slot ≡ Some entry
-        → (file : LoadFile) × (held tables.files.items entry.file ≡ Some file)
-    loaded_file_is_used slot entry at = by (held tables.files.items entry.file) refl (well_entry slot entry at).loaded
+    pub loaded_file_is_used : (slot : ℕ) (entry : Entry) → thing_in tables.entries.items slot ≡ Some entry
+        → (file : LoadFile) × (thing_in tables.files.items entry.file ≡ Some file)
+    loaded_file_is_used slot entry at = by (thing_in tables.files.items entry.file) refl (well_entry slot entry at).loaded
       where
-        by : (o : Option LoadFile) → held tables.files.items entry.file ≡ o → IsSome (file_named said (file_aid tables.files.items entry.file))
-            → (file : LoadFile) × (held tables.files.items entry.file ≡ Some file)
+        by : (o : Option LoadFile) → thing_in tables.files.items entry.file ≡ o → IsSome (file_named said (file_aid tables.files.items entry.file))
+            → (file : LoadFile) × (thing_in tables.files.items entry.file ≡ Some file)
         by (Some file) at loaded = (file, at)
         by None at loaded = absurd (no_file_unnamed (subst (λ (aid : List ℕ). IsSome (file_named said aid)) (ap (λ (o : Option LoadFile). unwrap_or (option_map (λ f. f.aid) o) []) at) loaded))
 
     -- the domain of an entry, a load file, a key, an object is a domain in its slot
-    pub domain_is_used : (slot : ℕ) (entry : Entry) → held tables.entries.items slot ≡ Some entry
-        → (domain : Entry) × (held tables.entries.items entry.domain ≡ Some domain) × (has security_domain domain.privileges ≡ true)
+    pub domain_is_used : (slot : ℕ) (entry : Entry) → thing_in tables.entries.items slot ≡ Some entry
+        → (domain : Entry) × (thing_in tables.entries.items entry.domain ≡ Some domain) × (has security_domain domain.privileges ≡ true)
     domain_is_used slot entry at = domain_named_is_used entry.domain (well_entry slot entry at).domain
 
-    pub file_domain_is_used : (slot : ℕ) (file : LoadFile) → held tables.files.items slot ≡ Some file
-        → (domain : Entry) × (held tables.entries.items file.domain ≡ Some domain) × (has security_domain domain.privileges ≡ true)
+    pub file_domain_is_used : (slot : ℕ) (file : LoadFile) → thing_in tables.files.items slot ≡ Some file
+        → (domain : Entry) × (thing_in tables.entries.items file.domain ≡ Some domain) × (has security_domain domain.privileges ≡ true)
     file_domain_is_used slot file at =
         let there = (shows_used (file_of page tables.entries.items) tables.files.items said.files says.files).there slot file at refl in
         domain_named_is_used file.domain (All-contains (IsWellFile said) said.files _ well.files there).domain
 
-    pub key_owner_is_used : (slot : ℕ) (key : KeyRec) → held tables.keys.items slot ≡ Some key
-        → (domain : Entry) × (held tables.entries.items key.owner ≡ Some domain) × (has security_domain domain.privileges ≡ true)
+    pub key_owner_is_used : (slot : ℕ) (key : KeyRec) → thing_in tables.keys.items slot ≡ Some key
+        → (domain : Entry) × (thing_in tables.entries.items key.owner ≡ Some domain) × (has security_domain domain.privileges ≡ true)
     key_owner_is_used slot key at =
         let there = (shows_used (key_of tables.entries.items) tables.keys.items said.keys says.keys).there slot key at refl in
         domain_named_is_used key.owner (All-contains (IsWellKey said) said.keys _ well.keys there).owner
 
-    pub object_owner_is_used : (slot : ℕ) (object : Object) → held tables.objects.items slot ≡ Some object
-        → (domain : Entry) × (held tables.entries.items object.owner ≡ Some domain) × (has security_domain domain.privileges ≡ true)
+    pub object_owner_is_used : (slot : ℕ) (object : Object) → thing_in tables.objects.items slot ≡ Some object
+        → (domain : Entry) × (thing_in tables.entries.items object.owner ≡ Some domain) × (has security_domain domain.privileges ≡ true)
     object_owner_is_used slot object at =
         let there = (shows_used (object_of tables.entries.items) tables.objects.items said.objects says.objects).there slot object at refl in
         domain_named_is_used object.owner (All-contains (IsWellObject said) said.objects _ well.objects there).owner

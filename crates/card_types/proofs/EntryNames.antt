@@ -5,7 +5,7 @@ use Rattle.card_types.specs.Aid.{same_aid, aid_order}
 use Rattle.card_types.specs.Search.{IsLeast, NoneFits}
 use Rattle.card_types.specs.Registry as registry
 use Rattle.card_types.specs.Registry.{entry_named}
-use Rattle.card_types.specs.Represents.{Represents, entry_of, held}
+use Rattle.card_types.specs.Represents.{Represents, entry_of, thing_in}
 use Rattle.card_types.specs.declared.tables.Entry.{Entry}
 use Rattle.card_types.specs.declared.tables.Tables.{Tables}
 use Rattle.card_types.proofs.NamesByAid.{aid_in_slot, slot_of_aid, one_slot_of_aid, least_aid, no_aid}
@@ -17,17 +17,17 @@ module _ (page : ℕ → List ℕ) (tables : Tables) (said : registry.Registry) 
   abbrev name : registry.Entry → List ℕ
   name entry = entry.aid
 
-  pub entry_in_slot : (slot : ℕ) (entry : Entry) → held tables.entries.items slot ≡ Some entry
+  pub entry_in_slot : (slot : ℕ) (entry : Entry) → thing_in tables.entries.items slot ≡ Some entry
       → entry_named said entry.aid ≡ Some (entry_of tables.entries.items tables.files.items entry)
   entry_in_slot slot entry at = aid_in_slot view name tables.entries.items said.entries says.entries says.ascending.entries slot entry at
 
   pub slot_of_entry : (aid : List ℕ) (named : registry.Entry) → entry_named said aid ≡ Some named
-      → (slot : ℕ) × (entry : Entry) × (held tables.entries.items slot ≡ Some entry)
+      → (slot : ℕ) × (entry : Entry) × (thing_in tables.entries.items slot ≡ Some entry)
       × (entry_of tables.entries.items tables.files.items entry ≡ named) × (entry.aid ≡ aid)
   slot_of_entry aid named found = slot_of_aid view name tables.entries.items said.entries says.entries says.ascending.entries aid named found
 
   -- no two slots have the same AID
-  pub one_entry_slot : (a b : ℕ) (x y : Entry) → held tables.entries.items a ≡ Some x → held tables.entries.items b ≡ Some y
+  pub one_entry_slot : (a b : ℕ) (x y : Entry) → thing_in tables.entries.items a ≡ Some x → thing_in tables.entries.items b ≡ Some y
       → x.aid ≡ y.aid → a ≡ b
   one_entry_slot a b x y at_a at_b alike =
       one_slot_of_aid view name tables.entries.items said.entries says.entries says.ascending.entries a b x y at_a at_b alike

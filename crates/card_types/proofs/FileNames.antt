@@ -5,7 +5,7 @@ use Rattle.card_types.specs.Aid.{same_aid, aid_order}
 use Rattle.card_types.specs.Search.{IsLeast, NoneFits}
 use Rattle.card_types.specs.Registry as registry
 use Rattle.card_types.specs.Registry.{file_named}
-use Rattle.card_types.specs.Represents.{Represents, file_of, held}
+use Rattle.card_types.specs.Represents.{Represents, file_of, thing_in}
 use Rattle.card_types.specs.declared.tables.LoadFile.{LoadFile}
 use Rattle.card_types.specs.declared.tables.Tables.{Tables}
 use Rattle.card_types.proofs.NamesByAid.{aid_in_slot, slot_of_aid, one_slot_of_aid, least_aid, no_aid}
@@ -17,17 +17,17 @@ module _ (page : ℕ → List ℕ) (tables : Tables) (said : registry.Registry) 
   abbrev name : registry.LoadFile → List ℕ
   name file = file.aid
 
-  pub file_in_slot : (slot : ℕ) (file : LoadFile) → held tables.files.items slot ≡ Some file
+  pub file_in_slot : (slot : ℕ) (file : LoadFile) → thing_in tables.files.items slot ≡ Some file
       → file_named said file.aid ≡ Some (file_of page tables.entries.items file)
   file_in_slot slot file at = aid_in_slot view name tables.files.items said.files says.files says.ascending.files slot file at
 
   pub slot_of_file : (aid : List ℕ) (named : registry.LoadFile) → file_named said aid ≡ Some named
-      → (slot : ℕ) × (file : LoadFile) × (held tables.files.items slot ≡ Some file)
+      → (slot : ℕ) × (file : LoadFile) × (thing_in tables.files.items slot ≡ Some file)
       × (file_of page tables.entries.items file ≡ named) × (file.aid ≡ aid)
   slot_of_file aid named found = slot_of_aid view name tables.files.items said.files says.files says.ascending.files aid named found
 
   -- no two slots have the same AID
-  pub one_file_slot : (a b : ℕ) (x y : LoadFile) → held tables.files.items a ≡ Some x → held tables.files.items b ≡ Some y
+  pub one_file_slot : (a b : ℕ) (x y : LoadFile) → thing_in tables.files.items a ≡ Some x → thing_in tables.files.items b ≡ Some y
       → x.aid ≡ y.aid → a ≡ b
   one_file_slot a b x y at_a at_b alike =
       one_slot_of_aid view name tables.files.items said.files says.files says.ascending.files a b x y at_a at_b alike

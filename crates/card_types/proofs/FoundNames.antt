@@ -9,7 +9,7 @@ use Rattle.card_types.specs.Search.{is_above}
 use Rattle.card_types.specs.Found.{IsNext, NoneFollows, aid_of}
 use Rattle.card_types.specs.Registry as registry
 use Rattle.card_types.specs.Registry.{entry_named, file_named}
-use Rattle.card_types.specs.Represents.{Represents, entry_of, file_of, held}
+use Rattle.card_types.specs.Represents.{Represents, entry_of, file_of, thing_in}
 use Rattle.card_types.specs.declared.factory.TheConstants.{ISSUER}
 use Rattle.card_types.specs.declared.found.Found.{Found}
 use Rattle.card_types.specs.declared.found.Found.TheVariants as found
@@ -25,13 +25,13 @@ use Rattle.card_types.proofs.SameAid.{same_aid_decides}
 module _ (page : ℕ → List ℕ) (tables : Tables) (said : registry.Registry) (says : Represents page tables said) where
   -- what is found by its AID is what has that name
   pub found_entry_named : (slot : ℕ) (aid : List ℕ) → aid_of tables (found.Entry slot) ≡ Some aid
-      → (entry : Entry) × (held tables.entries.items slot ≡ Some entry) × (entry_named said aid ≡ Some (entry_of tables.entries.items tables.files.items entry))
+      → (entry : Entry) × (thing_in tables.entries.items slot ≡ Some entry) × (entry_named said aid ≡ Some (entry_of tables.entries.items tables.files.items entry))
   found_entry_named slot aid named =
       let entry = held_from_name (λ (e : Entry). e.aid) tables.entries.items slot aid named in
       (entry.0, entry.1, subst (λ (a : List ℕ). entry_named said a ≡ Some (entry_of tables.entries.items tables.files.items entry.0)) entry.2 (entry_in_slot page tables said says slot entry.0 entry.1))
 
   pub found_file_named : (slot : ℕ) (aid : List ℕ) → aid_of tables (found.File slot) ≡ Some aid
-      → (file : LoadFile) × (held tables.files.items slot ≡ Some file) × (file_named said aid ≡ Some (file_of page tables.entries.items file))
+      → (file : LoadFile) × (thing_in tables.files.items slot ≡ Some file) × (file_named said aid ≡ Some (file_of page tables.entries.items file))
   found_file_named slot aid named =
       let file = held_from_name (λ (f : LoadFile). f.aid) tables.files.items slot aid named in
       (file.0, file.1, subst (λ (a : List ℕ). file_named said a ≡ Some (file_of page tables.entries.items file.0)) file.2 (file_in_slot page tables said says slot file.0 file.1))
@@ -44,7 +44,7 @@ module _ (page : ℕ → List ℕ) (tables : Tables) (said : registry.Registry) 
 
   -- the next load file is the first above the AID
   pub next_file_named : (after : Option (List ℕ)) (slot : ℕ) → IsNext tables Files after (found.File slot)
-      → (file : LoadFile) × (held tables.files.items slot ≡ Some file) × (find (λ f. is_above after f.aid) said.files ≡ Some (file_of page tables.entries.items file))
+      → (file : LoadFile) × (thing_in tables.files.items slot ≡ Some file) × (find (λ f. is_above after f.aid) said.files ≡ Some (file_of page tables.entries.items file))
   next_file_named after slot next =
       let file = held_from_name (λ (f : LoadFile). f.aid) tables.files.items slot next.aid next.follows.named in (
         file.0,
@@ -63,14 +63,14 @@ module _ (page : ℕ → List ℕ) (tables : Tables) (said : registry.Registry) 
       none (found.File slot) file.aid (record { of = tt; named = ap (option_map (λ (f : LoadFile). f.aid)) at; above = above_from after file.aid fits }))
 
   -- where the Issuer Security Domain is in slot 0, the next of the other entries is the first of them above the AID
-  module _ (issuer : Entry) (first : held tables.entries.items 0 ≡ Some issuer) (named : issuer.aid ≡ ISSUER) where
-    other_entry : (slot : ℕ) (entry : Entry) → held tables.entries.items slot ≡ Some entry → 0 < slot → not (same_aid entry.aid ISSUER) ≡ true
+  module _ (issuer : Entry) (first : thing_in tables.entries.items 0 ≡ Some issuer) (named : issuer.aid ≡ ISSUER) where
+    other_entry : (slot : ℕ) (entry : Entry) → thing_in tables.entries.items slot ≡ Some entry → 0 < slot → not (same_aid entry.aid ISSUER) ≡ true
     other_entry slot entry at above =
         not_from_false (same_aid entry.aid ISSUER) (false_from_ne_true (same_aid entry.aid ISSUER) (λ same.
         (let zero_slot = one_entry_slot page tables said says slot 0 entry issuer at first ((same_aid_decides entry.aid ISSUER).0 same ∙ sym named) in
         omega arith)))
 
-    other_slot : (slot : ℕ) (entry : Entry) → held tables.entries.items slot ≡ Some entry → not (same_aid entry.aid ISSUER) ≡ true → 0 < slot
+    other_slot : (slot : ℕ) (entry : Entry) → thing_in tables.entries.items slot ≡ Some entry → not (same_aid entry.aid ISSUER) ≡ true → 0 < slot
     other_slot zero entry at other =
         (let alike : issuer ≡ entry = cc in
         let same = (same_aid_decides entry.aid ISSUER).1 (ap (λ (e : Entry). e.aid) (sym alike) ∙ named) in
@@ -78,7 +78,7 @@ module _ (page : ℕ → List ℕ) (tables : Tables) (said : registry.Registry) 
     other_slot (suc slot) entry at other = omega arith
 
     pub next_entry_named : (after : Option (List ℕ)) (slot : ℕ) → IsNext tables Entries after (found.Entry slot)
-        → (entry : Entry) × (held tables.entries.items slot ≡ Some entry)
+        → (entry : Entry) × (thing_in tables.entries.items slot ≡ Some entry)
         × (find (λ e. not (same_aid e.aid ISSUER) && is_above after e.aid) said.entries ≡ Some (entry_of tables.entries.items tables.files.items entry))
     next_entry_named after slot next =
         let entry = held_from_name (λ (e : Entry). e.aid) tables.entries.items slot next.aid next.follows.named in (

@@ -6,7 +6,7 @@ use Rattle.std.proofs.lemmas.Cmp.{nat_cmp_total, nat_list_cmp_total, on_total, t
 use Rattle.card_types.specs.Registry.{key_order, counter_order}
 use Rattle.card_types.specs.Search.{IsLeast, NoneFits}
 use Rattle.card_types.specs.Registry as registry
-use Rattle.card_types.specs.Represents.{held, Represents, counter_of, domain_aid, keeps_counter, key_of}
+use Rattle.card_types.specs.Represents.{thing_in, Represents, counter_of, domain_aid, keeps_counter, key_of}
 use Rattle.card_types.proofs.SameAid.{aid_same_equal}
 use Rattle.card_types.specs.declared.tables.KeyRec.{KeyRec}
 use Rattle.card_types.specs.declared.tables.Tables.{Tables}
@@ -52,7 +52,7 @@ module _ (page : ℕ → List ℕ) (tables : Tables) (said : registry.Registry) 
   no_counter p none = none_shown (counter_of tables.entries.items) keeps_counter tables.keys.items said.counters counters_shown p none
 
   -- no two slots have keys of one owner slot, version and identifier
-  pub one_key_slot : (a b : ℕ) (x y : KeyRec) → held tables.keys.items a ≡ Some x → held tables.keys.items b ≡ Some y
+  pub one_key_slot : (a b : ℕ) (x y : KeyRec) → thing_in tables.keys.items a ≡ Some x → thing_in tables.keys.items b ≡ Some y
       → x.owner ≡ y.owner → x.version ≡ y.version → x.identifier ≡ y.identifier → a ≡ b
   one_key_slot a b x y at_a at_b owner version identifier =
       one_slot (key_of tables.entries.items) tables.keys.items said.keys says.keys key_order key_order_total says.ascending.keys a b x y at_a at_b

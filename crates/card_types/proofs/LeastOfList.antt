@@ -153,8 +153,8 @@ module _ {X : Type 0} (c : X → X → Ordering) where
         omega (arith, sum_by-cons (tie k) y ys)
 
     -- after one that ties there is no other
-    none_behind : (k y : X) (ys : List X) → IsStrictlySortedBy c (y ∷ ys) → c y k ≡ Equal → sum_by (tie k) ys ≡ 0
-    none_behind k y ys sorted is = no_tie k ys (λ z there tied.
+    none_after : (k y : X) (ys : List X) → IsStrictlySortedBy c (y ∷ ys) → c y k ≡ Equal → sum_by (tie k) ys ≡ 0
+    none_after k y ys sorted is = no_tie k ys (λ z there tied.
         (let below = first_below y ys sorted z there in
         let moved = total.congr y k z is in
         let back = tied_back total z k tied in cc))
@@ -170,5 +170,5 @@ module _ {X : Type 0} (c : X → X → Ordering) where
         with_first k y ys sorted rest Greater is = (let first : tie k y ≡ 0 = rw is in omega (arith, sum_by-cons (tie k) y ys))
         with_first k y ys sorted rest Equal is =
             (let first : tie k y ≡ 1 = rw is in
-            let none = none_behind k y ys sorted is in
+            let none = none_after k y ys sorted is in
             omega (arith, sum_by-cons (tie k) y ys))

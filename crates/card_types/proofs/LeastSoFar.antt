@@ -8,18 +8,18 @@ use Rattle.std.proofs.lemmas.Bool.{and_parts}
 use Rattle.std.proofs.lemmas.List.{get_or_past}
 use Rattle.std.proofs.Math.Nat.{eq-or-lt_of_le}
 use Rattle.card_types.specs.Search.{IsLeast, NoneFits, is_nearer}
-use Rattle.card_types.specs.Represents.{held}
+use Rattle.card_types.specs.Represents.{thing_in}
 use Rattle.card_types.specs.declared.search.InSlot.{InSlot}
 use Rattle.card_types.proofs.NotAbove.{not_above_self, not_above_third, not_below}
 
 -- of the things in the first n slots that fit, the least
 pub record IsLeastBefore {T : Type 0} (fits : T → Bool) (order : T → T → Ordering) (slots : List (Option T)) (n slot : ℕ) (thing : T) : Type 0 where
-  pub at : held slots slot ≡ Some thing
+  pub at : thing_in slots slot ≡ Some thing
   pub fitting : fits thing ≡ true
-  pub least : (other : ℕ) (another : T) → other < n → held slots other ≡ Some another → fits another ≡ true → order thing another ≢ Greater
+  pub least : (other : ℕ) (another : T) → other < n → thing_in slots other ≡ Some another → fits another ≡ true → order thing another ≢ Greater
 
 abbrev pub NoneBefore : {T : Type 0} → (T → Bool) → List (Option T) → ℕ → Type 0
-NoneBefore {T} fits slots n = (slot : ℕ) (thing : T) → slot < n → held slots slot ≡ Some thing → fits thing ≢ true
+NoneBefore {T} fits slots n = (slot : ℕ) (thing : T) → slot < n → thing_in slots slot ≡ Some thing → fits thing ≢ true
 
 abbrev pub LeastBefore : {T : Type 0} → (T → Bool) → (T → T → Ordering) → List (Option T) → ℕ → Option (InSlot T) → Type 0
 LeastBefore fits order slots n None = NoneBefore fits slots n
@@ -35,7 +35,7 @@ newest n slot within =
     ]
 
 -- a slot that holds something is not past the last
-pub within_slots : {T : Type 0} (slots : List (Option T)) (slot : ℕ) (thing : T) → held slots slot ≡ Some thing → slot < length slots
+pub within_slots : {T : Type 0} (slots : List (Option T)) (slot : ℕ) (thing : T) → thing_in slots slot ≡ Some thing → slot < length slots
 within_slots slots slot thing at =
     let past : length slots ≤ slot → 1 ≤ 0 = λ over. (let none = get_or_past slots slot None over in cc) in
     grind arith
@@ -43,12 +43,12 @@ within_slots slots slot thing at =
 module _ {T : Type 0} (fits : T → Bool) (order : T → T → Ordering) (slots : List (Option T)) where
   -- the least so far stays where what is newest does not fit or is not below
   stays : (n : ℕ) (least : Option (InSlot T)) → LeastBefore fits order slots n least
-      → ((thing : T) → held slots n ≡ Some thing → fits thing ≡ true → (found : InSlot T) × (least ≡ Some found) × (order found.thing.now thing ≢ Greater))
+      → ((thing : T) → thing_in slots n ≡ Some thing → fits thing ≡ true → (found : InSlot T) × (least ≡ Some found) × (order found.thing.now thing ≢ Greater))
       → LeastBefore fits order slots (n + 1) least
   stays n None none last = λ slot thing within at fit.
       elim (newest n slot within) [
         | inl below ↦ none slot thing below at fit
-        | inr same ↦ (let found = last thing (subst (λ (s : ℕ). held slots s ≡ Some thing) same at) fit in (let clash = found.1 in cc))
+        | inr same ↦ (let found = last thing (subst (λ (s : ℕ). thing_in slots s ≡ Some thing) same at) fit in (let clash = found.1 in cc))
       ]
   stays n (Some best) before last = record {
     at = before.at;
@@ -57,19 +57,19 @@ module _ {T : Type 0} (fits : T → Bool) (order : T → T → Ordering) (slots 
         elim (newest n other within) [
           | inl below ↦ before.least other another below at fit
           | inr same ↦
-              (let found = last another (subst (λ (s : ℕ). held slots s ≡ Some another) same at) fit in
+              (let found = last another (subst (λ (s : ℕ). thing_in slots s ≡ Some another) same at) fit in
               let alike : found.0 ≡ best = (let is = found.1 in cc) in
               subst (λ (f : InSlot T). order f.thing.now another ≢ Greater) alike found.2)
         ];
   }
 
-  pub free_stays : (n : ℕ) (least : Option (InSlot T)) → held slots n ≡ None → LeastBefore fits order slots n least
+  pub free_stays : (n : ℕ) (least : Option (InSlot T)) → thing_in slots n ≡ None → LeastBefore fits order slots n least
       → LeastBefore fits order slots (n + 1) least
   free_stays n least free before = stays n least before (λ thing at fit. absurd cc)
 
   module _ (total : IsTotalOrder order) where
     -- the least so far stays where what is newest is not nearer
-    pub not_nearer_stays : (n : ℕ) (least : Option (InSlot T)) (thing : T) → held slots n ≡ Some thing → is_nearer fits order least thing ≡ false
+    pub not_nearer_stays : (n : ℕ) (least : Option (InSlot T)) (thing : T) → thing_in slots n ≡ Some thing → is_nearer fits order least thing ≡ false
         → LeastBefore fits order slots n least → LeastBefore fits order slots (n + 1) least
     not_nearer_stays n None thing at not_nearer before = stays n None before (λ other here fit.
         (let same : other ≡ thing = cc in
@@ -81,7 +81,7 @@ module _ {T : Type 0} (fits : T → Bool) (order : T → T → Ordering) (slots 
         (best, refl, subst (λ (t : T). order best.thing.now t ≢ Greater) same (not_below total thing best.thing.now not_below_best))))
 
     -- what is nearer is the least then
-    pub nearer_takes : (n : ℕ) (least : Option (InSlot T)) (thing : T) → held slots n ≡ Some thing → is_nearer fits order least thing ≡ true
+    pub nearer_takes : (n : ℕ) (least : Option (InSlot T)) (thing : T) → thing_in slots n ≡ Some thing → is_nearer fits order least thing ≡ true
         → LeastBefore fits order slots n least → IsLeastBefore fits order slots (n + 1) n thing
     nearer_takes n None thing at nearer before = record {
       at = at;
@@ -90,7 +90,7 @@ module _ {T : Type 0} (fits : T → Bool) (order : T → T → Ordering) (slots 
           elim (newest n other within) [
             | inl below ↦ absurd (before other another below here fit)
             | inr same ↦
-                (let alike : thing ≡ another = (let there = subst (λ (s : ℕ). held slots s ≡ Some another) same here in cc) in
+                (let alike : thing ≡ another = (let there = subst (λ (s : ℕ). thing_in slots s ≡ Some another) same here in cc) in
                 subst (λ (t : T). order thing t ≢ Greater) alike (not_above_self total thing))
           ];
     }
@@ -101,7 +101,7 @@ module _ {T : Type 0} (fits : T → Bool) (order : T → T → Ordering) (slots 
           elim (newest n other within) [
             | inl below ↦ not_above_third total thing best.thing.now another (less (order thing best.thing.now) (and_parts (fits thing) (is_lt (order thing best.thing.now)) nearer).1) (before.least other another below here fit)
             | inr same ↦
-                (let alike : thing ≡ another = (let there = subst (λ (s : ℕ). held slots s ≡ Some another) same here in cc) in
+                (let alike : thing ≡ another = (let there = subst (λ (s : ℕ). thing_in slots s ≡ Some another) same here in cc) in
                 subst (λ (t : T). order thing t ≢ Greater) alike (not_above_self total thing))
           ];
     }

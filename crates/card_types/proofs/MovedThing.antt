@@ -18,7 +18,7 @@ use Rattle.card_types.proofs.SameAid.{same_aid_decides}
 use Rattle.card_types.specs.Aid.{aid_order, same_aid}
 use Rattle.card_types.specs.ChangeLaws.{IsOfCard, MayMove, MovedKeeps}
 use Rattle.card_types.specs.Registry.{Entry, LoadFile, Registry, domain_of, entry_named, file_named}
-use Rattle.card_types.specs.RegistryChange.{moved}
+use Rattle.card_types.specs.RegistryChange.{with_thing_in_domain}
 use Rattle.card_types.specs.Well.{IsDomainNamed, IsFactoryFile, IsIssuerDomain, IsProperEntry, IsWellEntry, IsWellFile, LeadsToRoot, pages_of}
 use Rattle.card_types.specs.declared.factory.TheConstants.{ISSUER, FACTORY_FILE}
 
@@ -42,13 +42,13 @@ module _ (registry : Registry) (aid domain : List ℕ) where
   files = map file_in registry.files
 
   abbrev after : Registry
-  after = moved registry aid domain
+  after = with_thing_in_domain registry aid domain
 
   keeps : KeepsNames some
   keeps = some_keep (λ other. same_aid other aid) in_domain (record { aid = λ _. refl; file = λ _. refl; privileges = λ _. refl })
 
   -- steps from another thing are as before
-  pub step_other : (x : List ℕ) → x ≢ aid → domain_of (moved registry aid domain) x ≡ domain_of registry x
+  pub step_other : (x : List ℕ) → x ≢ aid → domain_of (with_thing_in_domain registry aid domain) x ≡ domain_of registry x
   step_other x other = ap (option_map (λ e. e.domain)) (entry_changed registry some files keeps x) ∙ by (entry_named registry x) refl
     where
       by : (o : Option Entry) → entry_named registry x ≡ o → option_map (λ (e : Entry). e.domain) (option_map some o) ≡ option_map (λ e. e.domain) o
@@ -60,7 +60,7 @@ module _ (registry : Registry) (aid domain : List ℕ) where
 
   module _ (of : IsOfCard registry) (may : MayMove registry aid domain) where
     -- the step from an entry that is moved leads to its new domain
-    pub step_thing : (entry : Entry) → entry_named registry aid ≡ Some entry → domain_of (moved registry aid domain) aid ≡ Some domain
+    pub step_thing : (entry : Entry) → entry_named registry aid ≡ Some entry → domain_of (with_thing_in_domain registry aid domain) aid ≡ Some domain
     step_thing entry at =
         let hit = (found_fits (λ (e : Entry). same_aid e.aid aid) registry.entries entry at).1 in
         ap (option_map (λ e. e.domain)) (entry_changed registry some files keeps aid ∙ ap (option_map some) at)
@@ -139,7 +139,7 @@ module _ (registry : Registry) (aid domain : List ℕ) where
         (λ hit. record { aid = is.aid; apart = apart; domain = domain_still registry some files keeps domain may.into; size = is.size })
         (λ missed. record { aid = is.aid; apart = apart; domain = domain_still registry some files keeps file.domain is.domain; size = is.size })
 
-    pub moved_is : IsOfCard (moved registry aid domain)
+    pub moved_is : IsOfCard (with_thing_in_domain registry aid domain)
     moved_is = record {
       well = changed_well registry some files keeps of.well proper domains lines (issuer_still registry some files keeps issuer of.well.issuer) loaded factory
           (length-map registry.files file_in) (sum_mapped (λ file. pages_of (length file.bytes)) file_in file_size registry.files)

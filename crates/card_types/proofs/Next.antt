@@ -7,7 +7,7 @@ use Rattle.std.specs.declared.cmp.Ordering.TheVariants.{Less, Equal, Greater}
 use Rattle.card_types.specs.Aid.{aid_order}
 use Rattle.card_types.specs.Search.{is_above, IsLeast, NoneFits}
 use Rattle.card_types.specs.Found.{IsAbove, IsNext, IsOf, NoneFollows, aid_of}
-use Rattle.card_types.specs.Represents.{held}
+use Rattle.card_types.specs.Represents.{thing_in}
 use Rattle.card_types.specs.declared.found.Found.{Found}
 use Rattle.card_types.specs.declared.found.Found.TheVariants.{Entry, File}
 use Rattle.card_types.specs.declared.found.Kind.{Kind}
@@ -16,9 +16,9 @@ use Rattle.card_types.specs.declared.tables.Tables.{Tables}
 
 -- the part of the slots holds what is of the kind, each thing at its place
 pub record HoldsKind {T : Type 0} (name : T → List ℕ) (tables : Tables) (kind : Kind) (part : List (Option T)) (place : ℕ → Found) : Type 0 where
-  pub there : (slot : ℕ) (thing : T) → held part slot ≡ Some thing → IsOf kind (place slot) × (aid_of tables (place slot) ≡ Some (name thing))
+  pub there : (slot : ℕ) (thing : T) → thing_in part slot ≡ Some thing → IsOf kind (place slot) × (aid_of tables (place slot) ≡ Some (name thing))
   pub back : (found : Found) (aid : List ℕ) → IsOf kind found → aid_of tables found ≡ Some aid
-      → (slot : ℕ) × (thing : T) × (held part slot ≡ Some thing) × (place slot ≡ found) × (name thing ≡ aid)
+      → (slot : ℕ) × (thing : T) × (thing_in part slot ≡ Some thing) × (place slot ≡ found) × (name thing ≡ aid)
 
 pub above_from : (after : Option (List ℕ)) (aid : List ℕ) → is_above after aid ≡ true → IsAbove after aid
 above_from None aid is = tt
@@ -53,20 +53,20 @@ module _ {T : Type 0} (name : T → List ℕ) (tables : Tables) (kind : Kind) (a
       let at = holds.back found aid follows.of follows.named in
       none at.0 at.1 at.2 (ap (is_above after) at.4 ∙ to_above after aid follows.above)
 
-pub held_from_name : {T : Type 0} (name : T → List ℕ) (slots : List (Option T)) (slot : ℕ) (aid : List ℕ) → option_map name (held slots slot) ≡ Some aid
-    → (thing : T) × (held slots slot ≡ Some thing) × (name thing ≡ aid)
-held_from_name {T} name slots slot aid named = by (held slots slot) refl named
+pub held_from_name : {T : Type 0} (name : T → List ℕ) (slots : List (Option T)) (slot : ℕ) (aid : List ℕ) → option_map name (thing_in slots slot) ≡ Some aid
+    → (thing : T) × (thing_in slots slot ≡ Some thing) × (name thing ≡ aid)
+held_from_name {T} name slots slot aid named = by (thing_in slots slot) refl named
   where
-    by : (o : Option T) → held slots slot ≡ o → option_map name o ≡ Some aid → (thing : T) × (held slots slot ≡ Some thing) × (name thing ≡ aid)
+    by : (o : Option T) → thing_in slots slot ≡ o → option_map name o ≡ Some aid → (thing : T) × (thing_in slots slot ≡ Some thing) × (name thing ≡ aid)
     by None is named = cc
     by (Some thing) is named = (thing, is, cc)
 
-first_held : {T : Type 0} (slots : List (Option T)) (slot : ℕ) (thing : T) → held (take 1 slots) slot ≡ Some thing → (slot ≡ 0) × (held slots slot ≡ Some thing)
+first_held : {T : Type 0} (slots : List (Option T)) (slot : ℕ) (thing : T) → thing_in (take 1 slots) slot ≡ Some thing → (slot ≡ 0) × (thing_in slots slot ≡ Some thing)
 first_held [] slot thing at = cc
 first_held (s ∷ slots) zero thing at = (refl, at)
 first_held (s ∷ slots) (suc slot) thing at = cc
 
-to_first_held : {T : Type 0} (slots : List (Option T)) (thing : T) → held slots 0 ≡ Some thing → held (take 1 slots) 0 ≡ Some thing
+to_first_held : {T : Type 0} (slots : List (Option T)) (thing : T) → thing_in slots 0 ≡ Some thing → thing_in (take 1 slots) 0 ≡ Some thing
 to_first_held [] thing at = cc
 to_first_held (s ∷ slots) thing at = at
 
@@ -74,11 +74,11 @@ take_length : {T : Type 0} (xs : List T) → take (length xs) xs ≡ xs
 take_length [] = refl
 take_length (x ∷ xs) = ap (λ rest. x ∷ rest) (take_length xs)
 
-other_held : {T : Type 0} (slots : List (Option T)) (slot : ℕ) → held (take (length slots - 1) (drop 1 slots)) slot ≡ held slots (suc slot)
+other_held : {T : Type 0} (slots : List (Option T)) (slot : ℕ) → thing_in (take (length slots - 1) (drop 1 slots)) slot ≡ thing_in slots (suc slot)
 other_held [] slot = refl
 other_held (s ∷ slots) slot =
     let long : length (s ∷ slots) - 1 ≡ length slots = omega arith in
-    rw long (ap (λ list. held list slot) (take_length slots))
+    rw long (ap (λ list. thing_in list slot) (take_length slots))
 
 -- the Issuer Security Domain is in the first slot, the other entries are in those after it
 pub holds_issuer : (tables : Tables) → HoldsKind (λ entry. entry.aid) tables Issuer (take 1 tables.entries.items) Entry
@@ -90,23 +90,23 @@ holds_issuer tables = record {
 }
   where
     back : (found : Found) (aid : List ℕ) → IsOf Issuer found → aid_of tables found ≡ Some aid
-        → (slot : ℕ) × (entry : _) × (held (take 1 tables.entries.items) slot ≡ Some entry) × (Entry slot ≡ found) × (entry.aid ≡ aid)
+        → (slot : ℕ) × (entry : _) × (thing_in (take 1 tables.entries.items) slot ≡ Some entry) × (Entry slot ≡ found) × (entry.aid ≡ aid)
     back (Entry slot) aid of named =
         (let entry = held_from_name (λ entry. entry.aid) tables.entries.items slot aid named in
-        (0, entry.0, to_first_held tables.entries.items entry.0 (subst (λ (s : ℕ). held tables.entries.items s ≡ Some entry.0) of entry.1), ap Entry (sym of), entry.2))
+        (0, entry.0, to_first_held tables.entries.items entry.0 (subst (λ (s : ℕ). thing_in tables.entries.items s ≡ Some entry.0) of entry.1), ap Entry (sym of), entry.2))
     back (File slot) aid of named = absurd of
 
 pub holds_entries : (tables : Tables)
     → HoldsKind (λ entry. entry.aid) tables Entries (take (length tables.entries.items - 1) (drop 1 tables.entries.items)) (λ slot. Entry (slot + 1))
 holds_entries tables = record {
   there = λ slot entry at.
-      (let up : held tables.entries.items (slot + 1) ≡ Some entry = ap (held tables.entries.items) (add-one slot) ∙ sym (other_held tables.entries.items slot) ∙ at in
+      (let up : thing_in tables.entries.items (slot + 1) ≡ Some entry = ap (thing_in tables.entries.items) (add-one slot) ∙ sym (other_held tables.entries.items slot) ∙ at in
       (omega arith, ap (option_map (λ e. e.aid)) up));
   back = back;
 }
   where
     back : (found : Found) (aid : List ℕ) → IsOf Entries found → aid_of tables found ≡ Some aid
-        → (slot : ℕ) × (entry : _) × (held (take (length tables.entries.items - 1) (drop 1 tables.entries.items)) slot ≡ Some entry)
+        → (slot : ℕ) × (entry : _) × (thing_in (take (length tables.entries.items - 1) (drop 1 tables.entries.items)) slot ≡ Some entry)
         × (Entry (slot + 1) ≡ found) × (entry.aid ≡ aid)
     back (Entry zero) aid of named = absurd (omega arith)
     back (Entry (suc slot)) aid of named =
@@ -121,7 +121,7 @@ holds_files tables = record {
 }
   where
     back : (found : Found) (aid : List ℕ) → IsOf Files found → aid_of tables found ≡ Some aid
-        → (slot : ℕ) × (file : _) × (held tables.files.items slot ≡ Some file) × (File slot ≡ found) × (file.aid ≡ aid)
+        → (slot : ℕ) × (file : _) × (thing_in tables.files.items slot ≡ Some file) × (File slot ≡ found) × (file.aid ≡ aid)
     back (Entry slot) aid of named = absurd of
     back (File slot) aid of named =
         (let file = held_from_name (λ file. file.aid) tables.files.items slot aid named in

@@ -10,7 +10,7 @@ use Rattle.card_types.specs.Aid.{same_aid}
 use Rattle.card_types.specs.Registry.{object_order, object_named}
 use Rattle.card_types.specs.Search.{IsLeast, NoneFits}
 use Rattle.card_types.specs.Registry as registry
-use Rattle.card_types.specs.Represents.{Represents, domain_aid, object_of, held}
+use Rattle.card_types.specs.Represents.{Represents, domain_aid, object_of, thing_in}
 use Rattle.card_types.specs.Well.{Well}
 use Rattle.card_types.specs.declared.tables.Entry.{Entry}
 use Rattle.card_types.specs.declared.tables.Object.{Object}
@@ -36,7 +36,7 @@ module _ (page : ℕ → List ℕ) (tables : Tables) (said : registry.Registry) 
       let parts = and_parts (same_aid other.owner owner) (other.tag == tag) fits in
       ((same_aid_decides other.owner owner).0 parts.0, eqb-true other.tag tag parts.1)
 
-  pub object_in_slot : (slot : ℕ) (object : Object) → held tables.objects.items slot ≡ Some object
+  pub object_in_slot : (slot : ℕ) (object : Object) → thing_in tables.objects.items slot ≡ Some object
       → object_named said (domain_aid tables.entries.items object.owner) object.tag ≡ Some (object_of tables.entries.items object)
   object_in_slot slot object at =
       let owner = domain_aid tables.entries.items object.owner in
@@ -58,7 +58,7 @@ module _ (page : ℕ → List ℕ) (tables : Tables) (said : registry.Registry) 
   no_object p none = none_shown (object_of tables.entries.items) (λ _. true) tables.objects.items said.objects objects_shown p none
 
   -- a domain in a slot has no object of this tag where no slot has one of that slot
-  pub object_unnamed : Well said → (owner : ℕ) (entry : Entry) (tag : ℕ) → held tables.entries.items owner ≡ Some entry
+  pub object_unnamed : Well said → (owner : ℕ) (entry : Entry) (tag : ℕ) → thing_in tables.entries.items owner ≡ Some entry
       → NoneFits (λ object. object.owner == owner && object.tag == tag) tables.objects.items
       → object_named said (domain_aid tables.entries.items owner) tag ≡ None
   object_unnamed well owner entry tag at none =
@@ -69,7 +69,7 @@ module _ (page : ℕ → List ℕ) (tables : Tables) (said : registry.Registry) 
       none slot object here (and_from (object.owner == owner) (object.tag == tag) (eq-eqb object.owner owner slots) (eq-eqb object.tag tag same.1))))
 
   -- no two slots have objects of one owner slot and tag
-  pub one_object_slot : (a b : ℕ) (x y : Object) → held tables.objects.items a ≡ Some x → held tables.objects.items b ≡ Some y
+  pub one_object_slot : (a b : ℕ) (x y : Object) → thing_in tables.objects.items a ≡ Some x → thing_in tables.objects.items b ≡ Some y
       → x.owner ≡ y.owner → x.tag ≡ y.tag → a ≡ b
   one_object_slot a b x y at_a at_b owner tag =
       one_slot (object_of tables.entries.items) tables.objects.items said.objects says.objects object_order object_order_total says.ascending.objects a b x y at_a at_b

@@ -12,7 +12,7 @@ use Rattle.std.proofs.lemmas.List.Sorted.{IsPermutation-cons, IsPermutation-midd
 use Rattle.card_types.specs.Aid.{same_aid}
 use Rattle.card_types.specs.Registry.{counter_order, Counter, Entry, Key, LoadFile, Object, Registry, counter_named}
 use Rattle.card_types.specs.RegistryChange.{IsReplaced}
-use Rattle.card_types.specs.Counters.{raised, raised_counter}
+use Rattle.card_types.specs.Counters.{raised_counter, with_counter_raised}
 use Rattle.card_types.specs.Well.{IsWellCounter, IsWellEntry, IsWellFile, IsWellKey, IsWellObject, IsWholeSet, Well}
 use Rattle.card_types.specs.declared.limits.TheConstants.{COUNTER_LIMIT}
 use Rattle.card_types.proofs.KeyNames.{counter_order_total}
@@ -25,10 +25,10 @@ use Rattle.card_types.proofs.SetNames.{same_number}
 -- A list in which one thing alone is changed.
 module _ {X : Type 0} (order : X → X → Ordering) (total : IsTotalOrder order) (f : X → X) (fits : X → Bool) (kept : (x : X) → fits x ≡ false → f x ≡ x) where
   -- nothing changes after the one that fits
-  none_behind : (x : X) → ((y : X) → fits y ≡ true → order x y ≡ Equal) → (ys : List X) → ((y : X) → Contains ys y → order x y ≡ Less) → map f ys ≡ ys
-  none_behind x alone [] below = refl
-  none_behind x alone (y ∷ ys) below =
-      let rest = none_behind x alone ys (λ z there. below z (contains_later y ys z there)) in
+  none_after : (x : X) → ((y : X) → fits y ≡ true → order x y ≡ Equal) → (ys : List X) → ((y : X) → Contains ys y → order x y ≡ Less) → map f ys ≡ ys
+  none_after x alone [] below = refl
+  none_after x alone (y ∷ ys) below =
+      let rest = none_after x alone ys (λ z there. below z (contains_later y ys z there)) in
       let first : f y ≡ y = elim (cases_Bool (fits y)) [
         | inl fit ↦ (let tied = alone y fit in let less = below y (contains_first y ys) in cc)
         | inr misfit ↦ kept y misfit
@@ -40,7 +40,7 @@ module _ {X : Type 0} (order : X → X → Ordering) (total : IsTotalOrder order
   one_changed x [] alone sorted there = absurd (omega (arith, there.1))
   one_changed x (y ∷ ys) alone sorted there = elim (contains_cases y ys x there) [
     | inl same ↦
-        (let behind : map f ys ≡ ys = none_behind x alone ys (λ z later. ap (λ a. order a z) (sym same) ∙ first_below order y ys sorted z later) in
+        (let behind : map f ys ≡ ys = none_after x alone ys (λ z later. ap (λ a. order a z) (sym same) ∙ first_below order y ys sorted z later) in
         rw (behind, same) (IsPermutation-middle (f x ∷ []) x ys))
     | inr later ↦
         (let first : f y ≡ y = elim (cases_Bool (fits y)) [
@@ -91,7 +91,7 @@ module _ (registry : Registry) (owner : List ℕ) (version : ℕ) where
   -- the counters are those with that one change
   pub counters_replaced : (counter : Counter) → IsStrictlySortedBy counter_order registry.counters → Contains registry.counters counter
       → counter.owner ≡ owner → counter.version ≡ version
-      → IsReplaced counter_order counter (record counter { number = counter.number + 1 }) registry.counters (raised registry owner version).counters
+      → IsReplaced counter_order counter (record counter { number = counter.number + 1 }) registry.counters (with_counter_raised registry owner version).counters
   counters_replaced counter sorted there owned versioned = record {
     ascending = names_sorted counter_order (raised_counter owner version) registry.counters sorted;
     same = subst (λ (c : Counter). IsPermutation (c ∷ registry.counters) (counter ∷ map (raised_counter owner version) registry.counters))
@@ -100,7 +100,7 @@ module _ (registry : Registry) (owner : List ℕ) (version : ℕ) where
         (set_ties counter owned versioned) sorted there);
   }
 
-  has_counter_still : (domain : List ℕ) (number : ℕ) → HasCounterOf registry domain number → HasCounterOf (raised registry owner version) domain number
+  has_counter_still : (domain : List ℕ) (number : ℕ) → HasCounterOf registry domain number → HasCounterOf (with_counter_raised registry owner version) domain number
   has_counter_still domain number has = record {
     counter = raised_counter owner version has.counter;
     is_there = contains_map (raised_counter owner version) registry.counters has.counter has.is_there;
@@ -108,30 +108,30 @@ module _ (registry : Registry) (owner : List ℕ) (version : ℕ) where
     version_is = has.version_is;
   }
 
-  set_still : (domain : List ℕ) (number : ℕ) → IsWholeSet registry domain number → IsWholeSet (raised registry owner version) domain number
+  set_still : (domain : List ℕ) (number : ℕ) → IsWholeSet registry domain number → IsWholeSet (with_counter_raised registry owner version) domain number
   set_still domain number set = record {
     first = set.first;
     second = set.second;
     third = set.third;
-    counter = counter_is_named (raised registry owner version) domain number (has_counter_still domain number (counter_there registry domain number set.counter));
+    counter = counter_is_named (with_counter_raised registry owner version) domain number (has_counter_still domain number (counter_there registry domain number set.counter));
   }
 
-  still_well_entry : (entry : Entry) → IsWellEntry registry entry → IsWellEntry (raised registry owner version) entry
+  still_well_entry : (entry : Entry) → IsWellEntry registry entry → IsWellEntry (with_counter_raised registry owner version) entry
   still_well_entry entry is = record { proper = is.proper; domain = is.domain; line = is.line; loaded = is.loaded }
 
-  still_well_file : (file : LoadFile) → IsWellFile registry file → IsWellFile (raised registry owner version) file
+  still_well_file : (file : LoadFile) → IsWellFile registry file → IsWellFile (with_counter_raised registry owner version) file
   still_well_file file is = record { aid = is.aid; apart = is.apart; domain = is.domain; size = is.size }
 
-  still_well_key : (key : Key) → IsWellKey registry key → IsWellKey (raised registry owner version) key
+  still_well_key : (key : Key) → IsWellKey registry key → IsWellKey (with_counter_raised registry owner version) key
   still_well_key key is = record { owner = is.owner; size = is.size; size_of_set = is.size_of_set; name = is.name; whole = λ below. set_still key.owner key.version (is.whole below) }
 
-  still_well_object : (object : Object) → IsWellObject registry object → IsWellObject (raised registry owner version) object
+  still_well_object : (object : Object) → IsWellObject registry object → IsWellObject (with_counter_raised registry owner version) object
   still_well_object object is = record { owner = is.owner; form = is.form }
 
   -- where a next number comes after that of the key set, the registry is well with it
   module _ (next : (counter : Counter) → Contains registry.counters counter → counter.owner ≡ owner → counter.version ≡ version → counter.number < COUNTER_LIMIT) where
     still_well_counter : (counter : Counter) → Contains registry.counters counter → IsWellCounter registry counter
-        → IsWellCounter (raised registry owner version) (raised_counter owner version counter)
+        → IsWellCounter (with_counter_raised registry owner version) (raised_counter owner version counter)
     still_well_counter counter there is = record {
       set = set_still counter.owner counter.version is.set;
       version = is.version;
@@ -140,7 +140,7 @@ module _ (registry : Registry) (owner : List ℕ) (version : ℕ) where
           (λ misfit. is.number);
     }
 
-    pub raised_well : Well registry → Well (raised registry owner version)
+    pub raised_well : Well registry → Well (with_counter_raised registry owner version)
     raised_well well = record {
       few_entries = well.few_entries;
       few_files = well.few_files;
@@ -150,22 +150,22 @@ module _ (registry : Registry) (owner : List ℕ) (version : ℕ) where
       few_keys_each = well.few_keys_each;
       issuer = well.issuer;
       factory_file = well.factory_file;
-      entries = All-weaker (IsWellEntry registry) (IsWellEntry (raised registry owner version)) still_well_entry registry.entries well.entries;
-      files = All-weaker (IsWellFile registry) (IsWellFile (raised registry owner version)) still_well_file registry.files well.files;
-      keys = All-weaker (IsWellKey registry) (IsWellKey (raised registry owner version)) still_well_key registry.keys well.keys;
-      counters = All-weaker (Contains (map (raised_counter owner version) registry.counters)) (IsWellCounter (raised registry owner version))
+      entries = All-weaker (IsWellEntry registry) (IsWellEntry (with_counter_raised registry owner version)) still_well_entry registry.entries well.entries;
+      files = All-weaker (IsWellFile registry) (IsWellFile (with_counter_raised registry owner version)) still_well_file registry.files well.files;
+      keys = All-weaker (IsWellKey registry) (IsWellKey (with_counter_raised registry owner version)) still_well_key registry.keys well.keys;
+      counters = All-weaker (Contains (map (raised_counter owner version) registry.counters)) (IsWellCounter (with_counter_raised registry owner version))
           (λ counter there.
           (let from = mapped (raised_counter owner version) registry.counters counter there in
-          subst (IsWellCounter (raised registry owner version)) from.2
+          subst (IsWellCounter (with_counter_raised registry owner version)) from.2
           (still_well_counter from.0 from.1 (All-contains (IsWellCounter registry) registry.counters from.0 well.counters from.1))))
           (map (raised_counter owner version) registry.counters)
           (All-contains_itself (map (raised_counter owner version) registry.counters));
-      objects = All-weaker (IsWellObject registry) (IsWellObject (raised registry owner version)) still_well_object registry.objects well.objects;
+      objects = All-weaker (IsWellObject registry) (IsWellObject (with_counter_raised registry owner version)) still_well_object registry.objects well.objects;
     }
 
   -- where the counter is found and has a next number, the registry is well with it
   pub raised_found_well : IsStrictlySortedBy counter_order registry.counters → (counter : Counter) → counter_named registry owner version ≡ Some counter
-      → counter.number < COUNTER_LIMIT → Well registry → Well (raised registry owner version)
+      → counter.number < COUNTER_LIMIT → Well registry → Well (with_counter_raised registry owner version)
   raised_found_well sorted counter found below = raised_well (λ other there owned versioned.
       (let alike : counter ≡ other = (let also = counter_found sorted other there owned versioned in cc) in
       subst (λ (c : Counter). c.number < COUNTER_LIMIT) alike below))

@@ -11,7 +11,7 @@ use Rattle.card_types.specs.Aid.{same_aid}
 use Rattle.card_types.specs.Registry.{counter_order, key_order, counter_named, key_named}
 use Rattle.card_types.specs.KeySets.{HasKey, HasKeys, IsKeyOf, IsSetOf}
 use Rattle.card_types.specs.Registry as registry
-use Rattle.card_types.specs.Represents.{Represents, counter_of, domain_aid, keeps_counter, key_of, held}
+use Rattle.card_types.specs.Represents.{Represents, counter_of, domain_aid, keeps_counter, key_of, thing_in}
 use Rattle.card_types.specs.Well.{IsKeyLength, IsWellCounter, IsWellKey, Well}
 use Rattle.card_types.specs.declared.tables.Entry.{Entry}
 use Rattle.card_types.specs.declared.tables.KeyRec.{KeyRec}
@@ -26,11 +26,11 @@ pub same_number : (a b : ℕ) → a ≡ b → nat_cmp a b ≡ Equal
 same_number a b same = ap (nat_cmp a) (sym same) ∙ tied_itself nat_cmp_total a
 
 -- the key in a slot that has one of this name
-pub is_key_held : (keys : List (Option KeyRec)) (owner version identifier slot : ℕ) (key : KeyRec) → held keys slot ≡ Some key → HasKey keys owner version identifier slot
+pub is_key_held : (keys : List (Option KeyRec)) (owner version identifier slot : ℕ) (key : KeyRec) → thing_in keys slot ≡ Some key → HasKey keys owner version identifier slot
     → IsKeyOf owner version identifier key
 is_key_held keys owner version identifier slot key at has = MatchOption-at_some ⊥ (IsKeyOf owner version identifier) _ at has
 
-pub has_from_held : (keys : List (Option KeyRec)) (owner version identifier slot : ℕ) (key : KeyRec) → held keys slot ≡ Some key → IsKeyOf owner version identifier key
+pub has_from_held : (keys : List (Option KeyRec)) (owner version identifier slot : ℕ) (key : KeyRec) → thing_in keys slot ≡ Some key → IsKeyOf owner version identifier key
     → HasKey keys owner version identifier slot
 has_from_held keys owner version identifier slot key at is = subst (λ (o : Option KeyRec). MatchOption o ⊥ (IsKeyOf owner version identifier)) (sym at) is
 
@@ -54,7 +54,7 @@ slots_of_set keys owner version slots least is =
 
 -- the first key of a set keeps its counter
 pub first_keeps_counter : (keys : List (Option KeyRec)) (owner given : ℕ) (slots : List ℕ) (key : KeyRec) → IsSetOf keys owner given slots
-    → held keys (slice_index_or slots 0 0) ≡ Some key → keeps_counter key ≡ true
+    → thing_in keys (slice_index_or slots 0 0) ≡ Some key → keeps_counter key ≡ true
 first_keeps_counter keys owner given slots key is at =
     let first : HasKey keys owner is.version 1 (slice_index_or slots 0 0) = subst (λ (s : List ℕ). HasKey keys owner is.version 1 (slice_index_or s 0 0)) (sym is.whole.are) is.whole.first_key in
     let named = is_key_held keys owner is.version 1 (slice_index_or slots 0 0) key at first in
@@ -62,7 +62,7 @@ first_keeps_counter keys owner given slots key is at =
 
 module _ (page : ℕ → List ℕ) (tables : Tables) (said : registry.Registry) (says : Represents page tables said) where
   -- the key in a slot is the one with its name
-  pub key_in_slot : (slot : ℕ) (key : KeyRec) → held tables.keys.items slot ≡ Some key
+  pub key_in_slot : (slot : ℕ) (key : KeyRec) → thing_in tables.keys.items slot ≡ Some key
       → key_named said (domain_aid tables.entries.items key.owner) key.version key.identifier ≡ Some (key_of tables.entries.items key)
   key_in_slot slot key at =
       let owner = domain_aid tables.entries.items key.owner in
@@ -80,7 +80,7 @@ module _ (page : ℕ → List ℕ) (tables : Tables) (said : registry.Registry) 
       rw (aid_same_equal owner other.owner (sym same_owner), same_number key.version other.version (sym same_version), same_number key.identifier other.identifier (sym same_identifier)) refl))
 
   -- the counter that a key in a slot keeps is the one with its name
-  pub counter_in_slot : (slot : ℕ) (key : KeyRec) → held tables.keys.items slot ≡ Some key → keeps_counter key ≡ true
+  pub counter_in_slot : (slot : ℕ) (key : KeyRec) → thing_in tables.keys.items slot ≡ Some key → keeps_counter key ≡ true
       → counter_named said (domain_aid tables.entries.items key.owner) key.version ≡ Some (counter_of tables.entries.items key)
   counter_in_slot slot key at keeps =
       let owner = domain_aid tables.entries.items key.owner in
@@ -94,7 +94,7 @@ module _ (page : ℕ → List ℕ) (tables : Tables) (said : registry.Registry) 
       rw (aid_same_equal owner other.owner (sym same_owner), same_number key.version other.version (sym same_version)) refl))
 
   -- the key that a slot is said to have is the one with that name
-  pub has_key_named : (owner version identifier slot : ℕ) (key : KeyRec) → held tables.keys.items slot ≡ Some key → HasKey tables.keys.items owner version identifier slot
+  pub has_key_named : (owner version identifier slot : ℕ) (key : KeyRec) → thing_in tables.keys.items slot ≡ Some key → HasKey tables.keys.items owner version identifier slot
       → key_named said (domain_aid tables.entries.items owner) version identifier ≡ Some (key_of tables.entries.items key)
   has_key_named owner version identifier slot key at has =
       let is = is_key_held tables.keys.items owner version identifier slot key at has in
@@ -105,11 +105,11 @@ module _ (page : ℕ → List ℕ) (tables : Tables) (said : registry.Registry) 
 
   module _ (well : Well said) where
     -- a key in a slot has the length of a key
-    pub key_length_in_slot : (slot : ℕ) (key : KeyRec) → held tables.keys.items slot ≡ Some key → IsKeyLength (length key.bytes.items)
+    pub key_length_in_slot : (slot : ℕ) (key : KeyRec) → thing_in tables.keys.items slot ≡ Some key → IsKeyLength (length key.bytes.items)
     key_length_in_slot slot key at = (All-contains (IsWellKey said) said.keys _ well.keys ((keys_shown page tables said says).there slot key at refl)).size
 
     -- keys of one domain with one key version number have one length
-    pub key_length_of_set : (slot other : ℕ) (key another : KeyRec) → held tables.keys.items slot ≡ Some key → held tables.keys.items other ≡ Some another
+    pub key_length_of_set : (slot other : ℕ) (key another : KeyRec) → thing_in tables.keys.items slot ≡ Some key → thing_in tables.keys.items other ≡ Some another
         → another.owner ≡ key.owner → another.version ≡ key.version → length another.bytes.items ≡ length key.bytes.items
     key_length_of_set slot other key another at here owned versioned =
         let shown = keys_shown page tables said says in
@@ -117,7 +117,7 @@ module _ (page : ℕ → List ℕ) (tables : Tables) (said : registry.Registry) 
         (key_of tables.entries.items another) (shown.there other another here refl) (ap (domain_aid tables.entries.items) owned) versioned
 
     -- a key of a domain in a slot is in a slot
-    pub slot_of_key : (owner : ℕ) (entry : Entry) (version identifier : ℕ) → held tables.entries.items owner ≡ Some entry
+    pub slot_of_key : (owner : ℕ) (entry : Entry) (version identifier : ℕ) → thing_in tables.entries.items owner ≡ Some entry
         → HasKeyNamed said (domain_aid tables.entries.items owner) version identifier → (slot : ℕ) × HasKey tables.keys.items owner version identifier slot
     slot_of_key owner entry version identifier at has =
         let from = (keys_shown page tables said says).from has.key has.is_there in
@@ -132,7 +132,7 @@ module _ (page : ℕ → List ℕ) (tables : Tables) (said : registry.Registry) 
         )
 
     -- where there is a counter of a domain in a slot, the keys of its set are in slots
-    pub set_of_counter : (owner : ℕ) (entry : Entry) (counter : registry.Counter) → held tables.entries.items owner ≡ Some entry
+    pub set_of_counter : (owner : ℕ) (entry : Entry) (counter : registry.Counter) → thing_in tables.entries.items owner ≡ Some entry
         → Contains said.counters counter → counter.owner ≡ domain_aid tables.entries.items owner
         → (counter.version ≤ 0x6F) × ((slots : List ℕ) × HasKeys tables.keys.items owner counter.version slots)
     set_of_counter owner entry counter at there owned =
@@ -148,7 +148,7 @@ module _ (page : ℕ → List ℕ) (tables : Tables) (said : registry.Registry) 
         )
 
     -- where a key in a slot keeps a counter, the keys of its set are in slots
-    pub set_beside : (slot : ℕ) (key : KeyRec) → held tables.keys.items slot ≡ Some key → keeps_counter key ≡ true
+    pub set_beside : (slot : ℕ) (key : KeyRec) → thing_in tables.keys.items slot ≡ Some key → keeps_counter key ≡ true
         → (slots : List ℕ) × HasKeys tables.keys.items key.owner key.version slots
     set_beside slot key at keeps =
         let owner = key_owner_is_used page tables said says well slot key at in

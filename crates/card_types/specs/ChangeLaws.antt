@@ -5,7 +5,7 @@ use Rattle.std.specs.List.{sum_by}
 use Rattle.card_types.specs.Aid.{IsAid}
 use Rattle.card_types.specs.Registry.{IsAscending, Entry, LoadFile, Registry, domain_of, entry_named, file_named, is_domain}
 use Rattle.card_types.specs.Hierarchy.{IsLine}
-use Rattle.card_types.specs.RegistryChange.{IsEntryAdded, IsFileAdded, moved, with_card_life, with_life, with_locks, with_receipts, without_applications, without_entry, without_file}
+use Rattle.card_types.specs.RegistryChange.{IsEntryAdded, IsFileAdded, with_card_life, with_life, with_locks, with_receipts, with_thing_in_domain, without_applications, without_entry, without_file}
 use Rattle.card_types.specs.Well.{IsDomainNamed, IsProperEntry, Well, has_life, pages_of}
 use Rattle.card_types.specs.declared.card_life.CardLife.{CardLife}
 use Rattle.card_types.specs.declared.factory.TheConstants.{ISSUER, FACTORY_FILE}
@@ -84,7 +84,7 @@ abbrev pub CardLifeKeeps : Type 0
 CardLifeKeeps = (registry : Registry) (life : CardLife) → IsOfCard registry → IsOfCard (with_card_life registry life)
 
 abbrev pub MovedKeeps : Type 0
-MovedKeeps = (registry : Registry) (aid domain : List ℕ) → IsOfCard registry → MayMove registry aid domain → IsOfCard (moved registry aid domain)
+MovedKeeps = (registry : Registry) (aid domain : List ℕ) → IsOfCard registry → MayMove registry aid domain → IsOfCard (with_thing_in_domain registry aid domain)
 
 abbrev pub EntryRemovedKeeps : Type 0
 EntryRemovedKeeps = (registry : Registry) (aid : List ℕ) → IsOfCard registry → MayRemoveEntry registry aid → IsOfCard (without_entry registry aid)

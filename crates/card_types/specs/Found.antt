@@ -4,7 +4,7 @@ use Rattle.std.specs.Option.{option_map}
 use Rattle.std.specs.Ordering.{nat_cmp}
 use Rattle.std.specs.Cmp.Lexicographic.{slice_cmp}
 use Rattle.std.specs.declared.cmp.Ordering.TheVariants.{Less, Greater}
-use Rattle.card_types.specs.Represents.{held}
+use Rattle.card_types.specs.Represents.{thing_in}
 use Rattle.card_types.specs.declared.found.Found.{Found}
 use Rattle.card_types.specs.declared.found.Found.TheVariants.{Entry, File}
 use Rattle.card_types.specs.declared.found.Kind.{Kind}
@@ -13,8 +13,8 @@ use Rattle.card_types.specs.declared.tables.Tables.{Tables}
 
 -- the AID of the thing in a slot, where there is one
 abbrev pub aid_of : Tables → Found → Option (List ℕ)
-aid_of tables (Entry slot) = option_map (λ entry. entry.aid) (held tables.entries.items slot)
-aid_of tables (File slot) = option_map (λ file. file.aid) (held tables.files.items slot)
+aid_of tables (Entry slot) = option_map (λ entry. entry.aid) (thing_in tables.entries.items slot)
+aid_of tables (File slot) = option_map (λ file. file.aid) (thing_in tables.files.items slot)
 
 -- the kinds of GET STATUS (GlobalPlatform Card Specification 2.3.1, 11.4.2.1): the Issuer Security Domain is the entry in slot
 -- 0, and the other entries are in all other slots

@@ -2,7 +2,7 @@
 -- Card Specification 2.3.1, 11.8; Amendment D, 7.1.1).
 use Rattle.std.specs.Prelude.{◌≡◌, ℕ, ◌≤◌, ◌==◌, ◌⊎◌, List, [], ◌∷◌, Bool, ◌&&◌, Option, Some, MatchOption, length}
 use Rattle.card_types.specs.Registry.{Registry, counter_named, key_named}
-use Rattle.card_types.specs.Represents.{held, counter_of, key_of}
+use Rattle.card_types.specs.Represents.{thing_in, counter_of, key_of}
 use Rattle.card_types.specs.Well.{IsKeyLength}
 use Rattle.card_types.specs.declared.key_set.KeySet.{KeySet}
 use Rattle.card_types.specs.declared.tables.Entry.{Entry}
@@ -20,12 +20,12 @@ is_key owner version identifier key = key.owner == owner && key.version == versi
 
 -- the slot holds that key
 abbrev pub HasKey : List (Option KeyRec) → ℕ → ℕ → ℕ → ℕ → Type 0
-HasKey keys owner version identifier slot = MatchOption (held keys slot) ⊥ (IsKeyOf owner version identifier)
+HasKey keys owner version identifier slot = MatchOption (thing_in keys slot) ⊥ (IsKeyOf owner version identifier)
 
 -- some slot holds this key, which is that one
 pub record HoldsKeyOf (keys : List (Option KeyRec)) (owner version identifier : ℕ) (key : KeyRec) : Type 0 where
   pub slot : ℕ
-  pub at : held keys slot ≡ Some key
+  pub at : thing_in keys slot ≡ Some key
   pub is : IsKeyOf owner version identifier key
 
 -- the slots hold the three keys of this key version number
@@ -39,7 +39,7 @@ pub record HasKeys (keys : List (Option KeyRec)) (owner version : ℕ) (slots : 
   pub third_key : HasKey keys owner version 3 third
 
 -- a key version number that is asked for: the given one, or any of a key set where 00 is given
-pub record IsAsked (given version : ℕ) : Type 0 where
+pub record IsVersionAsked (given version : ℕ) : Type 0 where
   pub asked : (given ≡ 0) ⊎ (given ≡ version)
   pub least : 0x01 ≤ version
   pub most : version ≤ 0x6F
@@ -47,13 +47,13 @@ pub record IsAsked (given version : ℕ) : Type 0 where
 -- the slots hold the key set asked for, with the lowest key version number
 pub record IsSetOf (keys : List (Option KeyRec)) (owner given : ℕ) (slots : List ℕ) : Type 0 where
   pub version : ℕ
-  pub asked : IsAsked given version
+  pub asked : IsVersionAsked given version
   pub whole : HasKeys keys owner version slots
-  pub lowest : (other : ℕ) (others : List ℕ) → IsAsked given other → HasKeys keys owner other others → version ≤ other
+  pub lowest : (other : ℕ) (others : List ℕ) → IsVersionAsked given other → HasKeys keys owner other others → version ≤ other
 
 -- there is no key set that was asked for
 abbrev pub NoSetOf : List (Option KeyRec) → ℕ → ℕ → Type 0
-NoSetOf keys owner given = (version : ℕ) (slots : List ℕ) → IsAsked given version → HasKeys keys owner version slots → ⊥
+NoSetOf keys owner given = (version : ℕ) (slots : List ℕ) → IsVersionAsked given version → HasKeys keys owner version slots → ⊥
 
 -- The keys of a key set, by names.
 

@@ -52,8 +52,8 @@ abbrev pub with_receipts : Registry → List ℕ → ℕ → Registry
 with_receipts registry aid number = with_entries registry (λ other. same_aid other aid) (λ entry. record entry { receipts = number })
 
 -- the thing with this AID, an entry or an Executable Load File, in another domain
-abbrev pub moved : Registry → List ℕ → List ℕ → Registry
-moved registry aid domain = record (with_entries registry (λ other. same_aid other aid) (λ entry. record entry { domain = domain })) {
+abbrev pub with_thing_in_domain : Registry → List ℕ → List ℕ → Registry
+with_thing_in_domain registry aid domain = record (with_entries registry (λ other. same_aid other aid) (λ entry. record entry { domain = domain })) {
   files = map (λ file. cond (same_aid file.aid aid) (record file { domain = domain }) file) registry.files;
 }
 

@@ -16,23 +16,23 @@ use Rattle.card_types.specs.declared.tables.TheConstants.{ISSUER_SLOT}
 use Rattle.card_types.specs.Registry as registry
 
 -- what a slot of a list holds; there is nothing past the last one
-abbrev pub held : {T : Type 0} → List (Option T) → ℕ → Option T
-held slots slot = slice_index_or slots slot None
+abbrev pub thing_in : {T : Type 0} → List (Option T) → ℕ → Option T
+thing_in slots slot = slice_index_or slots slot None
 
 -- what the used slots hold
-abbrev pub used : {T : Type 0} → List (Option T) → List T
-used slots = filter_map (λ thing. thing) slots
+abbrev pub things_in : {T : Type 0} → List (Option T) → List T
+things_in slots = filter_map (λ thing. thing) slots
 
 -- the AID of the domain in a slot, and of the Executable Load File in one
 abbrev pub domain_aid : List (Option Entry) → ℕ → List ℕ
-domain_aid entries slot = unwrap_or (option_map (λ entry. entry.aid) (held entries slot)) []
+domain_aid entries slot = unwrap_or (option_map (λ entry. entry.aid) (thing_in entries slot)) []
 
 abbrev pub file_aid : List (Option LoadFile) → ℕ → List ℕ
-file_aid files slot = unwrap_or (option_map (λ file. file.aid) (held files slot)) []
+file_aid files slot = unwrap_or (option_map (λ file. file.aid) (thing_in files slot)) []
 
 -- the slot of the domain of the entry in a slot
 abbrev pub domain_slot : List (Option Entry) → ℕ → Option ℕ
-domain_slot entries slot = option_map (λ entry. entry.domain) (held entries slot)
+domain_slot entries slot = option_map (λ entry. entry.domain) (thing_in entries slot)
 
 abbrev pub entry_of : List (Option Entry) → List (Option LoadFile) → Entry → registry.Entry
 entry_of entries files entry = record {
@@ -78,11 +78,11 @@ object_of entries object = record {
 -- each list has what the used slots hold, and is in ascending order
 pub record Represents (page : ℕ → List ℕ) (tables : Tables) (said : registry.Registry) : Type 0 where
   pub life : tables.life ≡ said.life
-  pub entries : IsPermutation (map (entry_of tables.entries.items tables.files.items) (used tables.entries.items)) said.entries
-  pub files : IsPermutation (map (file_of page tables.entries.items) (used tables.files.items)) said.files
-  pub keys : IsPermutation (map (key_of tables.entries.items) (used tables.keys.items)) said.keys
-  pub counters : IsPermutation (map (counter_of tables.entries.items) (filter keeps_counter (used tables.keys.items))) said.counters
-  pub objects : IsPermutation (map (object_of tables.entries.items) (used tables.objects.items)) said.objects
+  pub entries : IsPermutation (map (entry_of tables.entries.items tables.files.items) (things_in tables.entries.items)) said.entries
+  pub files : IsPermutation (map (file_of page tables.entries.items) (things_in tables.files.items)) said.files
+  pub keys : IsPermutation (map (key_of tables.entries.items) (things_in tables.keys.items)) said.keys
+  pub counters : IsPermutation (map (counter_of tables.entries.items) (filter keeps_counter (things_in tables.keys.items))) said.counters
+  pub objects : IsPermutation (map (object_of tables.entries.items) (things_in tables.objects.items)) said.objects
   pub ascending : IsAscending said
 
 -- How tables lay out a registry: a slot for each thing that there is room for, and the Issuer Security Domain in a slot of
@@ -90,7 +90,7 @@ pub record Represents (page : ℕ → List ℕ) (tables : Tables) (said : regist
 
 -- the Issuer Security Domain is in its slot
 abbrev pub HasIssuer : List (Option Entry) → Type 0
-HasIssuer entries = MatchOption (held entries ISSUER_SLOT) ⊥ (λ entry. entry.aid ≡ ISSUER)
+HasIssuer entries = MatchOption (thing_in entries ISSUER_SLOT) ⊥ (λ entry. entry.aid ≡ ISSUER)
 
 -- there is a slot for each thing that a card has room for
 pub record HasSlots (tables : Tables) : Type 0 where

@@ -1,7 +1,7 @@
 //! Key sets: in the list of keys, and by the domain and the key version number.
 
 ghost use Rattle.std.specs.Prelude.{◌≡◌, ◌≤◌, ◌↔◌, ◌⊎◌, ℕ, List, true, Some, IsTrue, IfSome, IfNone, length};
-ghost use Rattle.card_types.specs.Represents.{IsInOrder, Represents, domain_aid, keeps_counter, held};
+ghost use Rattle.card_types.specs.Represents.{IsInOrder, Represents, domain_aid, keeps_counter, thing_in};
 ghost use Rattle.card_types.specs.KeySets.{HasKey, HasKeys, HoldsKeyOf, IsKeyOf, IsSetOf, NoSetOf, is_key, AreKeysOf, HaveKeyLength};
 ghost use Rattle.card_types.specs.Registry.{Registry};
 ghost use Rattle.card_types.specs.declared.limits.TheConstants.{KEYS};
@@ -38,7 +38,7 @@ pub fn find_key(
     identifier: u8,
 ) -> Option<InSlot<'_, KeyRec>>
     requires { length keys.now ≤ 256 }
-    ensures slot { IfSome result (λ found. held keys.now found.slot ≡ Some found.thing.now) }
+    ensures slot { IfSome result (λ found. thing_in keys.now found.slot ≡ Some found.thing.now) }
     ensures key { IfSome result (λ found. IsKeyOf owner version identifier found.thing.now) }
     ensures none { IfNone result ((slot : ℕ) → HasKey keys.now owner version identifier slot → ⊥) }
 {
@@ -111,7 +111,7 @@ fn key_named(tables: &Tables, owner: u8, version: u8, identifier: u8) -> &KeyRec
 /// The keys of the key set whose sequence counter a key keeps: that key is Key-ENC.
 pub fn set_with<'a>(tables: &'a Tables, enc: &'a KeyRec) -> KeySet<'a>
     requires in_order { IsInOrder tables.now }
-    requires there { (slot : ℕ) × (held tables.now.keys.items slot ≡ Some enc.now) }
+    requires there { (slot : ℕ) × (thing_in tables.now.keys.items slot ≡ Some enc.now) }
     requires counts { keeps_counter enc.now ≡ true }
     ensures enc { result.enc.now ≡ enc.now }
     ensures lengths { HaveKeyLength result }

@@ -1,7 +1,7 @@
 //! The persistent state of a card, in slots.
 
 ghost use Rattle.std.specs.Prelude.{◌≡◌, None, Some, MatchOption};
-ghost use Rattle.card_types.specs.Represents.{held};
+ghost use Rattle.card_types.specs.Represents.{thing_in};
 
 use crate::aid::Aid;
 use crate::card_life::CardLife;
@@ -79,7 +79,7 @@ pub struct Tables {
 
 /// What a slot holds, where it holds something.
 pub fn in_slot<T>(slots: &[Option<T>], slot: u8) -> Option<&T>
-    ensures { MatchOption result (held slots.now slot ≡ None) (λ thing. held slots.now slot ≡ Some thing.now) }
+    ensures { MatchOption result (thing_in slots.now slot ≡ None) (λ thing. thing_in slots.now slot ≡ Some thing.now) }
 {
     match slots.get(usize::from(slot)) {
         Some(Some(thing)) => Some(thing),

@@ -2,7 +2,7 @@
 use Rattle.std.specs.Prelude.{◌≡◌, ℕ, ◌*◌, ◌-◌, ◌^◌, List, [], None, replicate, take}
 use Rattle.flash_core.specs.Memory.{medium}
 use Rattle.flash_core.specs.declared.page.TheConstants.{PAGES}
-use Rattle.cases.specs.Image.{bytes_of}
+use Rattle.cases.specs.Image.{bytes_of_pages}
 use Rattle.cases.specs.Layout.{Laid, Lays, nothing_in}
 use Rattle.cases.specs.declared.bench.Bench.{Bench}
 use Rattle.cases.specs.declared.bench.Power.{Power}
@@ -20,16 +20,16 @@ pub record IsNew (bench : Bench) : Type 0 where
   pub called : bench.called ≡ None
 
 -- the pages of a device, and what was laid out in them; of a device with a card that is on, any pages
-abbrev pub HasPages : Power → Laid → Type 0
-HasPages power.Blank laid = laid ≡ nothing_in (replicate (PAGES * 256) 0)
-HasPages (power.Laid layout) laid = laid ≡ layout
-HasPages (power.Off flash) laid = laid ≡ nothing_in (bytes_of (take PAGES (medium flash).seen))
-HasPages (power.On player) laid = laid ≡ nothing_in laid.image
+abbrev pub IsLaidOut : Power → Laid → Type 0
+IsLaidOut power.Blank laid = laid ≡ nothing_in (replicate (PAGES * 256) 0)
+IsLaidOut (power.Laid layout) laid = laid ≡ layout
+IsLaidOut (power.Off flash) laid = laid ≡ nothing_in (bytes_of_pages (take PAGES (medium flash).seen))
+IsLaidOut (power.On player) laid = laid ≡ nothing_in laid.image
 
 -- a thing is laid out in the pages of the device
 pub record LaysIn (kind line : List ℕ) (old new : Power) : Type 0 where
   pub before : Laid
   pub after : Laid
-  pub pages : HasPages old before
+  pub pages : IsLaidOut old before
   pub lays : Lays kind line before after
   pub laid : new ≡ power.Laid after

@@ -4,8 +4,8 @@ use Rattle.std.specs.List.{splice, flat_map}
 use Rattle.flash_core.specs.declared.page.Page.{Page}
 
 -- the bytes of some pages
-abbrev pub bytes_of : List Page → List ℕ
-bytes_of pages = flat_map (λ page. page.bytes) pages
+abbrev pub bytes_of_pages : List Page → List ℕ
+bytes_of_pages pages = flat_map (λ page. page.bytes) pages
 
 -- the page with this number
 abbrev pub page_of : List ℕ → ℕ → Page

@@ -2,8 +2,8 @@
 use Rattle.std.specs.Prelude.{◌≡◌, ℕ, ◌+◌, ◌/◌, ◌%◌, List, [], ◌∷◌, ◌++◌, codes, length}
 use Rattle.script_tool.specs.Words.{SpellsByte, words_of}
 use Rattle.cases.specs.Image.{with_bytes}
-use Rattle.cases.specs.Slots.{place_of, named, padded}
-use Rattle.cases.specs.Things.{SaysEntry, SaysKey, SaysObject}
+use Rattle.cases.specs.Slots.{slot_start, name_field, with_zeros}
+use Rattle.cases.specs.Things.{SaysCardKey, SaysEntry, SaysObject}
 use Rattle.cases.specs.declared.layout.slot.Slots.{Slots}
 use Rattle.cases.specs.declared.layout.slot.TheConstants.{LOAD_PAGES, ENTRIES, KEYS, OBJECTS}
 use Rattle.cases.specs.declared.things.EntryWords.{EntryWords}
@@ -26,7 +26,7 @@ nothing_in image = record { image = image; entries = []; files = []; keys = 0; o
 
 -- the slot with this number begins with these bytes
 abbrev pub with_slot : Slots → ℕ → List ℕ → List ℕ → List ℕ
-with_slot slots number bytes image = with_bytes image (place_of slots number) bytes
+with_slot slots number bytes image = with_bytes image (slot_start slots number) bytes
 
 -- the front of the superblock: the mark of a card, and its layout
 abbrev pub superblock : List ℕ
@@ -41,7 +41,7 @@ LaysCard _ old new = ⊥
 -- the slot of an entry, with the slots of its domain and its file
 abbrev pub entry_bytes : ℕ → ℕ → EntryWords → List ℕ
 entry_bytes domain file e =
-    0x01 ∷ named e.aid.items ++ domain ∷ file ∷ [] ++ named e.«module».items ++ e.state.life ++ e.state.privileges ++ e.state.receipts
+    0x01 ∷ name_field e.aid.items ++ domain ∷ file ∷ [] ++ name_field e.«module».items ++ e.state.life ++ e.state.privileges ++ e.state.receipts
 
 -- the next entry, with some slots for its domain and its file
 pub record LaysEntry (words : List (List ℕ)) (old new : Laid) : Type 0 where
@@ -55,13 +55,13 @@ pub record LaysEntry (words : List (List ℕ)) (old new : Laid) : Type 0 where
 
 -- the slot of a key, with the slot of its owner
 abbrev pub key_bytes : ℕ → KeyWords → List ℕ
-key_bytes owner k = 0x01 ∷ owner ∷ [] ++ k.version ++ k.identifier ++ length k.key.items ∷ [] ++ padded 32 k.key.items ++ k.counter
+key_bytes owner k = 0x01 ∷ owner ∷ [] ++ k.version ++ k.identifier ++ length k.key.items ∷ [] ++ with_zeros 32 k.key.items ++ k.counter
 
 -- the next key, with some slot for its owner
 pub record LaysKey (words : List (List ℕ)) (old new : Laid) : Type 0 where
   pub said : KeyWords
   pub owner : ℕ
-  pub says : SaysKey words said
+  pub says : SaysCardKey words said
   pub image : new.image ≡ with_slot KEYS old.keys (key_bytes owner said) old.image
   pub keys : new.keys ≡ old.keys + 1
   pub others : new ≡ record old { image = new.image; keys = new.keys }
@@ -81,7 +81,7 @@ pub record LaysObject (words : List (List ℕ)) (old new : Laid) : Type 0 where
 
 -- the slot of a file, with the slot of its domain, before it names its load pages
 abbrev pub file_bytes : ℕ → FileWords → List ℕ
-file_bytes domain f = 0x01 ∷ named f.aid.items ++ domain ∷ [] ++ f.len / 256 ∷ f.len % 256 ∷ [] ++ padded 235 []
+file_bytes domain f = 0x01 ∷ name_field f.aid.items ++ domain ∷ [] ++ f.len / 256 ∷ f.len % 256 ∷ [] ++ with_zeros 235 []
 
 -- the next file: nothing is added but its name, its slot and its load pages
 pub record LaysFile (old new : Laid) : Type 0 where

@@ -13,9 +13,9 @@ use Rattle.cases.specs.Things.{SaysEntry}
 use Rattle.cases.specs.declared.things.EntryWords.{EntryWords}
 
 -- one word spells the code of the state
-abbrev pub SaysLife : List (List ℕ) → CardLife → Type 0
-SaysLife (word ∷ []) life = SpellsByte word (card_life_code life)
-SaysLife _ life = ⊥
+abbrev pub SaysCardLife : List (List ℕ) → CardLife → Type 0
+SaysCardLife (word ∷ []) life = SpellsByte word (card_life_code life)
+SaysCardLife _ life = ⊥
 
 -- the entry of these words: things that it names are in the slots that it has for them
 pub record IsEntryOf (tables : Tables) (words : EntryWords) (entry : Entry) : Type 0 where

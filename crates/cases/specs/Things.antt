@@ -30,11 +30,11 @@ SaysFile (aid ∷ in' ∷ domain ∷ size ∷ digits ∷ more) f rest =
 SaysFile _ f rest = ⊥
 
 -- `OWNER VV II KEY CCCCCC`
-abbrev pub SaysKey : List (List ℕ) → KeyWords → Type 0
-SaysKey (owner ∷ version ∷ identifier ∷ key ∷ counter ∷ []) k =
+abbrev pub SaysCardKey : List (List ℕ) → KeyWords → Type 0
+SaysCardKey (owner ∷ version ∷ identifier ∷ key ∷ counter ∷ []) k =
     SpellsUpTo 16 owner k.owner.items × SpellsSome 1 version k.version × SpellsSome 1 identifier k.identifier
     × SpellsUpTo 32 key k.key.items × SpellsSome 3 counter k.counter
-SaysKey _ k = ⊥
+SaysCardKey _ k = ⊥
 
 -- `OWNER TTTT VALUE`
 abbrev pub SaysObject : List (List ℕ) → ObjectWords → Type 0

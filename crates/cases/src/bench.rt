@@ -4,8 +4,8 @@ mod answers;
 
 ghost use Rattle.std.specs.Prelude.{◌≡◌, ◌+◌, ◌*◌, ◌++◌, ◌∷◌, [], ℕ, List, codes, map, replicate, take, Ok, Err, OnOk, OnErr, IfOk};
 ghost use Rattle.std.specs.Borrow.{Bor};
-ghost use Rattle.cases.specs.Bench.{HasPages, IsNew, LaysIn};
-ghost use Rattle.cases.specs.Image.{bytes_of, with_bytes};
+ghost use Rattle.cases.specs.Bench.{IsLaidOut, IsNew, LaysIn};
+ghost use Rattle.cases.specs.Image.{bytes_of_pages, with_bytes};
 ghost use Rattle.cases.specs.Layout.{nothing_in};
 ghost use Rattle.cases.specs.declared.bench.Power.TheVariants.{Blank, Laid};
 ghost use Rattle.cases.specs.declared.case_error.CaseError.TheVariants.{NoForm};
@@ -189,7 +189,7 @@ impl<'a> Bench<'a> {
 
     // Takes the pages to lay out more in them.
     fn take_layout(&mut self) -> Result<Layout, CaseError>
-        ensures pages { IfOk result (HasPages self.old.power) }
+        ensures pages { IfOk result (IsLaidOut self.old.power) }
         ensures kept { OnOk result (self.new ≡ record self.old { power = Blank }) }
     {
         match mem::replace(&mut self.power, Power::Blank) {
@@ -201,7 +201,7 @@ impl<'a> Bench<'a> {
     }
 
     fn layout_of(&self, flash: &MemFlash) -> Result<Layout, CaseError>
-        ensures { IfOk result (λ laid. laid ≡ nothing_in (bytes_of (take PAGES (medium flash.now).seen))) }
+        ensures { IfOk result (λ laid. laid ≡ nothing_in (bytes_of_pages (take PAGES (medium flash.now).seen))) }
     {
         Ok(Layout::of(self.alloc, Image::of(self.alloc, flash)?))
     }

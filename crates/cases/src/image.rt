@@ -1,7 +1,7 @@
 //! The bytes of all pages of a device.
 
 ghost use Rattle.std.specs.Prelude.{◌≡◌, ◌+◌, ◌*◌, ◌<◌, length, replicate, slice_range, take, IfOk, OnOk, OnErr};
-ghost use Rattle.cases.specs.Image.{bytes_of, page_of, with_bytes};
+ghost use Rattle.cases.specs.Image.{bytes_of_pages, page_of, with_bytes};
 ghost use Rattle.flash_core.specs.Memory.{medium};
 ghost use Rattle.flash_core.specs.declared.page.TheConstants.{PAGES};
 
@@ -44,7 +44,7 @@ impl Image {
 
     /// The pages of a device, as they are read.
     pub fn of(alloc: Global, flash: &MemFlash) -> Result<Image, AllocError>
-        ensures { IfOk result (λ image. image ≡ bytes_of (take PAGES (medium flash.now).seen)) }
+        ensures { IfOk result (λ image. image ≡ bytes_of_pages (take PAGES (medium flash.now).seen)) }
     {
         let mut bytes = Vec::with_capacity(alloc, usize::from(PAGES) * PAGE_SIZE)?;
         for page in 0..PAGES {

@@ -8,7 +8,7 @@ mod slot;
 
 ghost use Rattle.std.specs.Prelude.{◌≡◌, ◌<◌, OnOk, OnErr};
 ghost use Rattle.cases.specs.Image.{with_bytes};
-ghost use Rattle.script_tool.specs.Words.{left};
+ghost use Rattle.script_tool.specs.Words.{remaining_words};
 
 use crate::case_error::CaseError;
 use crate::image::Image;
@@ -101,7 +101,7 @@ impl Layout {
 
     // LIFE
     fn lay_card(&mut self, words: Words<'_>) -> Result<(), CaseError>
-        ensures { OnOk result (LaysCard (left words.entry) self.old self.new) }
+        ensures { OnOk result (LaysCard (remaining_words words.entry) self.old self.new) }
     {
         let word = words.last().ok_or(CaseError::NoForm)?;
         let life = byte(word).ok_or(CaseError::NoForm)?;
@@ -110,7 +110,7 @@ impl Layout {
     }
 
     fn lay_entry(&mut self, words: Words<'_>) -> Result<(), CaseError>
-        ensures { OnOk result (LaysEntry (left words.entry) self.old self.new) }
+        ensures { OnOk result (LaysEntry (remaining_words words.entry) self.old self.new) }
     {
         let Some(said) = EntryWords::read(words) else {
             return Err(CaseError::NoForm);
@@ -145,7 +145,7 @@ impl Layout {
     }
 
     fn lay_key(&mut self, words: Words<'_>) -> Result<(), CaseError>
-        ensures { OnOk result (LaysKey (left words.entry) self.old self.new) }
+        ensures { OnOk result (LaysKey (remaining_words words.entry) self.old self.new) }
     {
         let Some(said) = KeyWords::read(words) else {
             return Err(CaseError::NoForm);
@@ -158,7 +158,7 @@ impl Layout {
     }
 
     fn lay_object(&mut self, words: Words<'_>) -> Result<(), CaseError>
-        ensures { OnOk result (LaysObject (left words.entry) self.old self.new) }
+        ensures { OnOk result (LaysObject (remaining_words words.entry) self.old self.new) }
     {
         let Some(said) = ObjectWords::read(words) else {
             return Err(CaseError::NoForm);

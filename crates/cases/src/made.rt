@@ -6,10 +6,10 @@ ghost use Rattle.card_types.specs.CardLife.{card_life_code};
 ghost use Rattle.card_types.specs.Found.{aid_of};
 ghost use Rattle.card_types.specs.declared.card_life.CardLife.{CardLife as CardLifeOf};
 ghost use Rattle.card_types.specs.declared.found.Found.TheVariants.{Entry as InEntry, File as InFile};
-ghost use Rattle.cases.specs.Made.{IsEntryOf, SaysLife, SaysMade};
+ghost use Rattle.cases.specs.Made.{IsEntryOf, SaysCardLife, SaysMade};
 ghost use Rattle.page_journal.specs.Pages.{IsLoadPage};
 ghost use Rattle.rec_store.specs.KeySlot.{IsRoomyKey};
-ghost use Rattle.script_tool.specs.Words.{Reads, SpellsByte, left};
+ghost use Rattle.script_tool.specs.Words.{Reads, SpellsByte, remaining_words};
 
 use crate::case_error::CaseError;
 use crate::things::{EntryWords, FileWords, KeyWords, Name, ObjectWords, slot_number};
@@ -25,7 +25,7 @@ use script_tool::words::Words;
 
 /// The life cycle state of a card: LIFE
 pub fn made_life(words: Words<'_>) -> Result<CardLife, CaseError>
-    ensures { MatchResult result (SaysLife (left words.entry)) (λ _. (life : CardLifeOf) → SaysLife (left words.entry) life → ⊥) }
+    ensures { MatchResult result (SaysCardLife (remaining_words words.entry)) (λ _. (life : CardLifeOf) → SaysCardLife (remaining_words words.entry) life → ⊥) }
 {
     let word = words.last().ok_or(CaseError::NoForm)?;
     match life(word) {
@@ -45,7 +45,7 @@ fn life(word: &[u8]) -> Option<CardLife>
 
 /// The entry that words say, with the slots of the domain and the file that it names.
 pub fn made_entry(tables: &Tables, words: Words<'_>) -> Result<Entry, CaseError>
-    ensures { IfOk result (SaysMade tables.now (left words.entry)) }
+    ensures { IfOk result (SaysMade tables.now (remaining_words words.entry)) }
 {
     let words = EntryWords::read(words).ok_or(CaseError::NoForm)?;
     entry_of(tables, &words)

@@ -1,9 +1,9 @@
 //! The things of a registry, as words say them.
 
 ghost use Rattle.std.specs.Prelude.{◌≡◌, ◌<◌, ◌^◌, ℕ, List, Some, IfNone, IfOk, IfSome};
-ghost use Rattle.cases.specs.Things.{SaysEntry, SaysFile, SaysKey, SaysObject, SaysState};
+ghost use Rattle.cases.specs.Things.{SaysCardKey, SaysEntry, SaysFile, SaysObject, SaysState};
 ghost use Rattle.cases.specs.declared.things.FileWords.{FileWords};
-ghost use Rattle.script_tool.specs.Words.{Reads, left};
+ghost use Rattle.script_tool.specs.Words.{Reads, remaining_words};
 
 use crate::case_error::CaseError;
 use crate::words::{after, last_after};
@@ -26,7 +26,7 @@ pub struct StateWords {
 impl StateWords {
     /// Reads the words that are left.
     pub fn read(words: Words<'_>) -> Option<StateWords>
-        ensures { Reads (SaysState (left words.entry)) result }
+        ensures { Reads (SaysState (remaining_words words.entry)) result }
     {
         let mut words = words;
         let life = array(after(&mut words, b"life")?)?;
@@ -53,7 +53,7 @@ pub struct EntryWords {
 impl EntryWords {
     /// Reads the words that are left.
     pub fn read(words: Words<'_>) -> Option<EntryWords>
-        ensures { Reads (SaysEntry (left words.entry)) result }
+        ensures { Reads (SaysEntry (remaining_words words.entry)) result }
     {
         let mut words = words;
         let aid = bytes(words.take()?)?;
@@ -82,8 +82,8 @@ pub struct FileWords {
 impl FileWords {
     /// Reads the first words of those that are left.
     pub fn read(words: &mut Words<'_>) -> Option<FileWords>
-        ensures said { IfSome result (λ file. SaysFile (left words.old) file (left words.new)) }
-        ensures none { IfNone result ((file : FileWords) (rest : List (List ℕ)) → file.len < 2 ^ 16 → SaysFile (left words.old) file rest → ⊥) }
+        ensures said { IfSome result (λ file. SaysFile (remaining_words words.old) file (remaining_words words.new)) }
+        ensures none { IfNone result ((file : FileWords) (rest : List (List ℕ)) → file.len < 2 ^ 16 → SaysFile (remaining_words words.old) file rest → ⊥) }
     {
         let aid = bytes(words.take()?)?;
         let domain = bytes(after(words, b"in")?)?;
@@ -105,7 +105,7 @@ pub struct KeyWords {
 impl KeyWords {
     /// Reads the words that are left.
     pub fn read(words: Words<'_>) -> Option<KeyWords>
-        ensures { Reads (SaysKey (left words.entry)) result }
+        ensures { Reads (SaysCardKey (remaining_words words.entry)) result }
     {
         let mut words = words;
         Some(KeyWords {
@@ -129,7 +129,7 @@ pub struct ObjectWords {
 impl ObjectWords {
     /// Reads the words that are left.
     pub fn read(words: Words<'_>) -> Option<ObjectWords>
-        ensures { Reads (SaysObject (left words.entry)) result }
+        ensures { Reads (SaysObject (remaining_words words.entry)) result }
     {
         let mut words = words;
         Some(ObjectWords {

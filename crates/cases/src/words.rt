@@ -1,7 +1,7 @@
 //! The words of a line, with one space between two.
 
 ghost use Rattle.std.specs.Prelude.{◌≡◌, ◌<◌, ◌∷◌, ◌^◌, [], ℕ, List, decimal, Some, MatchOption};
-ghost use Rattle.script_tool.specs.Words.{left};
+ghost use Rattle.script_tool.specs.Words.{remaining_words};
 
 use script_tool::spelled_number;
 use script_tool::words::Words;
@@ -15,7 +15,7 @@ pub fn number(word: &[u8]) -> Option<u32>
 
 /// Takes this very word, and answers the next one.
 pub fn after<'a>(words: &mut Words<'a>, label: &[u8]) -> Option<&'a [u8]>
-    ensures { MatchOption result ((word : List ℕ) (rest : List (List ℕ)) → left words.old ≡ label.now ∷ word ∷ rest → ⊥) (λ word. left words.old ≡ label.now ∷ word.now ∷ left words.new) }
+    ensures { MatchOption result ((word : List ℕ) (rest : List (List ℕ)) → remaining_words words.old ≡ label.now ∷ word ∷ rest → ⊥) (λ word. remaining_words words.old ≡ label.now ∷ word.now ∷ remaining_words words.new) }
 {
     words.fixed(label)?;
     words.take()
@@ -23,7 +23,7 @@ pub fn after<'a>(words: &mut Words<'a>, label: &[u8]) -> Option<&'a [u8]>
 
 /// Takes this very word and the next one, which is the last, and answers that.
 pub fn last_after<'a>(words: Words<'a>, label: &[u8]) -> Option<&'a [u8]>
-    ensures { MatchOption result ((word : List ℕ) → left words.entry ≡ label.now ∷ word ∷ [] → ⊥) (λ word. left words.entry ≡ label.now ∷ word.now ∷ []) }
+    ensures { MatchOption result ((word : List ℕ) → remaining_words words.entry ≡ label.now ∷ word ∷ [] → ⊥) (λ word. remaining_words words.entry ≡ label.now ∷ word.now ∷ []) }
 {
     let mut words = words;
     words.fixed(label)?;

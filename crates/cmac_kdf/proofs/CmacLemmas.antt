@@ -223,8 +223,8 @@ blocks_before m n last en el =
     ∙ sym (first_blocks-append (length (take last m) / 16) 0 (blocks_before_last m) (take last m) (drop last m) (omega arith) (omega arith))
     ∙ ap (first_blocks (blocks_before_last m)) (take-append-drop last m)
 
-pub last_behind : (m : List ℕ) (n last : ℕ) → n ≡ length m - 1 → last ≡ n / 16 * 16 → drop last m ≡ last_bytes m
-last_behind m n last en el =
+pub last_past : (m : List ℕ) (n last : ℕ) → n ≡ length m - 1 → last ≡ n / 16 * 16 → drop last m ≡ last_bytes m
+last_past m n last en el =
     let same : last ≡ 16 * blocks_before_last m = omega arith in
     ap (λ (k : ℕ). drop k m) same
 

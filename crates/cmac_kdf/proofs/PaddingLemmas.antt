@@ -82,9 +82,9 @@ padded_in_place s zeros n end k room ee ek ez =
     ∙ append_assoc (take n s) (0x80 ∷ []) (replicate (length (take k (drop (n + 1) (set s n 0x80)))) 0)
     ∙ ap (λ (j : ℕ). take n s ++ 0x80 ∷ replicate j 0) count
 
-pub behind_padding : (s zeros : List ℕ) (n end k : ℕ) → padded_length n ≤ length s → end ≡ padded_length n → k ≡ end - (n + 1) → zeros ≡ replicate (length (take k (drop (n + 1) (set s n 0x80)))) 0
+pub past_padding : (s zeros : List ℕ) (n end k : ℕ) → padded_length n ≤ length s → end ≡ padded_length n → k ≡ end - (n + 1) → zeros ≡ replicate (length (take k (drop (n + 1) (set s n 0x80)))) 0
     → drop end (put_mid (n + 1) k (set s n 0x80) zeros) ≡ drop end s
-behind_padding s zeros n end k room ee ek ez =
+past_padding s zeros n end k room ee ek ez =
     let ls : length (set s n 0x80) ≡ length s = length-set s n 0x80 in
     let part : length (take k (drop (n + 1) (set s n 0x80))) ≡ k = length-take-le k _ (omega (arith, length-drop (n + 1) (set s n 0x80))) in
     let lz : length zeros ≡ k = ap length ez ∙ length-replicate {A = ℕ} _ 0 ∙ part in

@@ -51,7 +51,7 @@ pub fn cbc_seal<K: BlockKey>(key: &K, icv: &[u8; 16], buf: &mut [u8], len: usize
     requires { padded_length len ≤ length buf.old }
     ensures length { result ≡ padded_length len }
     ensures sealed { take result buf.new ≡ sealed (K.key_bytes key.now) icv.now (take len buf.old) }
-    ensures behind { drop result buf.new ≡ drop result buf.old }
+    ensures after { drop result buf.new ≡ drop result buf.old }
 {
     let end = pad(buf, len);
     cbc_seal_blocks(key, icv, &mut buf[..end]);

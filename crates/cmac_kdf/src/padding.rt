@@ -18,7 +18,7 @@ pub fn pad(bytes: &mut [u8], len: usize) -> usize
     requires { padded_length len ≤ length bytes.old }
     ensures length { result ≡ padded_length len }
     ensures padded { take result bytes.new ≡ padded (take len bytes.old) }
-    ensures behind { drop result bytes.new ≡ drop result bytes.old }
+    ensures after { drop result bytes.new ≡ drop result bytes.old }
 {
     let end = padded_len(len);
     bytes[len] = 0x80;

@@ -4,7 +4,7 @@ use Rattle.std.specs.Prelude.{IsSome, MatchOption}
 use Rattle.std.specs.Option.{option_map}
 use Rattle.std.proofs.lemmas.Bool.{eqb-false, eqb-true}
 use Rattle.card_types.proofs.FoundNames.{found_entry_named, found_file_named, none_found_none_named}
-use Rattle.content_rules.specs.Prelude.{Above, ActsIn, Admitted, ComesFrom, DeletingFails, IsDeletionOf, IsFileInCharge, IsFrom, IsInCharge, IsInUse, IsInUseIn, IsToGo, RepresentsState, acting, aid_of, domain_slot, held}
+use Rattle.content_rules.specs.Prelude.{Above, ActsIn, Admitted, ComesFrom, DeletingFails, IsDeletionOf, IsFileInCharge, IsFrom, IsInCharge, IsInUse, IsInUseIn, IsToGo, RepresentsState, acting, aid_of, domain_slot, thing_in}
 use Rattle.card_types.specs.Registry as registry
 use Rattle.card_types.specs.declared.factory.TheConstants.{FACTORY_FILE, ISSUER}
 use Rattle.card_types.specs.declared.found.Found.{Found}
@@ -99,7 +99,7 @@ module _ (page : ℕ → List ℕ) (tables : Tables) (domain : ℕ) (admitted : 
 
     -- what is in use
     module _ (live : Live) (represents : RepresentsState page tables live admitted.at) (four : length admitted.at.volatile.channels ≡ CHANNELS) where
-      use_alike : (slot : ℕ) (entry : Entry) → held tables.entries.items slot ≡ Some entry → IsInUseIn tables live slot ↔ IsInUse admitted entry.aid
+      use_alike : (slot : ℕ) (entry : Entry) → thing_in tables.entries.items slot ≡ Some entry → IsInUseIn tables live slot ↔ IsInUse admitted entry.aid
       use_alike slot entry at =
           let said = admitted.at.registry in
           let volatile = admitted.at.volatile in

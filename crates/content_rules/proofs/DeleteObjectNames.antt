@@ -11,7 +11,7 @@ use Rattle.card_types.proofs.FileNames.{one_file_slot}
 use Rattle.card_types.proofs.FoundNames.{found_file_named}
 use Rattle.card_types.proofs.LeastOfList.{found_fits}
 use Rattle.card_types.proofs.Shows.{shows_used}
-use Rattle.content_rules.specs.Prelude.{Channel, ComesFrom, HasOthers, HasOthersIn, HasSelected, IsAid, IsDomainNamed, IsFrom, IsLoadDomain, IsLoadNamed, IsLoadedInto, IsSelected, IsSelectedIn, IsWellEntry, IsWellFile, LoadSession, Represents, Volatile, Well, aid_of, channel_at, domain_aid, entry_named, entry_of, file_aid, file_named, file_of, held, same_aid}
+use Rattle.content_rules.specs.Prelude.{Channel, ComesFrom, HasOthers, HasOthersIn, HasSelected, IsAid, IsDomainNamed, IsFrom, IsLoadDomain, IsLoadNamed, IsLoadedInto, IsSelected, IsSelectedIn, IsWellEntry, IsWellFile, LoadSession, Represents, Volatile, Well, aid_of, channel_at, domain_aid, entry_named, entry_of, file_aid, file_named, file_of, same_aid, thing_in}
 use Rattle.card_types.specs.Registry as registry
 use Rattle.card_types.specs.declared.found.Found.TheVariants as found
 use Rattle.card_types.specs.declared.tables.Entry.{Entry}
@@ -41,33 +41,33 @@ module _ (page : ℕ → List ℕ) (tables : Tables) (said : registry.Registry) 
   Selects live volatile =
       (number : ℕ) → number < CHANNELS → IsSelectedIn tables.entries.items (slice_index_or live.selected number None) (channel_at volatile number)
 
-  aid_in_slot : (slot : ℕ) (entry : Entry) → held tables.entries.items slot ≡ Some entry → IsAid entry.aid
+  aid_in_slot : (slot : ℕ) (entry : Entry) → thing_in tables.entries.items slot ≡ Some entry → IsAid entry.aid
   aid_in_slot slot entry at = (well_entry page tables said says well slot entry at).proper.aid
 
   -- the domain in a slot by its AID
-  pub slot_named : (slot other : ℕ) (entry : Entry) → held tables.entries.items slot ≡ Some entry → domain_aid tables.entries.items other ≡ entry.aid → other ≡ slot
-  slot_named slot other entry at same = by (held tables.entries.items other) refl
+  pub slot_named : (slot other : ℕ) (entry : Entry) → thing_in tables.entries.items slot ≡ Some entry → domain_aid tables.entries.items other ≡ entry.aid → other ≡ slot
+  slot_named slot other entry at same = by (thing_in tables.entries.items other) refl
     where
-      by : (o : Option Entry) → held tables.entries.items other ≡ o → other ≡ slot
+      by : (o : Option Entry) → thing_in tables.entries.items other ≡ o → other ≡ slot
       by None there =
           absurd (aid_some entry.aid (aid_in_slot slot entry at) (sym (ap (λ (o : Option Entry). unwrap_or (option_map (λ e. e.aid) o) []) there) ∙ same))
       by (Some another) there =
           one_entry_slot page tables said says other slot another entry there at (sym (domain_aid_is tables.entries.items other another there) ∙ same)
 
   -- an entry of the registry is in a slot, and one in a slot is in the registry
-  pub entry_shown : (slot : ℕ) (entry : Entry) → held tables.entries.items slot ≡ Some entry
+  pub entry_shown : (slot : ℕ) (entry : Entry) → thing_in tables.entries.items slot ≡ Some entry
       → Contains said.entries (entry_of tables.entries.items tables.files.items entry)
   entry_shown slot entry at = (shows_used (entry_of tables.entries.items tables.files.items) tables.entries.items said.entries says.entries).there slot entry at refl
 
   pub entry_from : (named : registry.Entry) → Contains said.entries named
-      → (slot : ℕ) × (entry : Entry) × (held tables.entries.items slot ≡ Some entry) × (entry_of tables.entries.items tables.files.items entry ≡ named)
+      → (slot : ℕ) × (entry : Entry) × (thing_in tables.entries.items slot ≡ Some entry) × (entry_of tables.entries.items tables.files.items entry ≡ named)
   entry_from named there =
       let at = (shows_used (entry_of tables.entries.items tables.files.items) tables.entries.items said.entries says.entries).from named there in
       (at.0, at.1, at.2, at.4)
 
   -- what is in use, of the entry in a slot
-  module _ (slot : ℕ) (entry : Entry) (at : held tables.entries.items slot ≡ Some entry) where
-    one_entry : (other : Entry) → held tables.entries.items slot ≡ Some other → other ≡ entry
+  module _ (slot : ℕ) (entry : Entry) (at : thing_in tables.entries.items slot ≡ Some entry) where
+    one_entry : (other : Entry) → thing_in tables.entries.items slot ≡ Some other → other ≡ entry
     one_entry other there = cc
 
     pub selected_named : (live : Live) (volatile : Volatile) → Selects live volatile → length volatile.channels ≡ CHANNELS
@@ -127,7 +127,7 @@ module _ (page : ℕ → List ℕ) (tables : Tables) (said : registry.Registry) 
           from.0,
           from.1,
           (λ same.
-              (let one = one_entry from.1 (ap (held tables.entries.items) (sym same) ∙ from.2) in
+              (let one = one_entry from.1 (ap (thing_in tables.entries.items) (sym same) ∙ from.2) in
               apart (sym (ap (λ (e : registry.Entry). e.aid) from.3) ∙ ap (λ (e : Entry). e.aid) one))),
           from.2,
           slot_named slot from.1.domain entry at domain,
@@ -148,7 +148,7 @@ module _ (page : ℕ → List ℕ) (tables : Tables) (said : registry.Registry) 
     no_domain : IsDomainNamed said aid → ⊥
     no_domain domain = subst (λ (o : Option registry.Entry). MatchOption o ⊥ (λ entry. registry.is_domain entry ≡ true)) no_entry domain
 
-    unused_slot : (other : ℕ) (entry : Entry) → held tables.entries.items other ≡ Some entry → entry.aid ≢ aid
+    unused_slot : (other : ℕ) (entry : Entry) → thing_in tables.entries.items other ≡ Some entry → entry.aid ≢ aid
     unused_slot other entry there same =
         let named = entry_in_slot page tables said says other entry there in
         let none = ap (entry_named said) same ∙ no_entry in
@@ -177,9 +177,9 @@ module _ (page : ℕ → List ℕ) (tables : Tables) (said : registry.Registry) 
     file_unloaded live volatile named into = by live.load volatile.load named into
       where
         none_there : (other : ℕ) → domain_aid tables.entries.items other ≡ aid → ⊥
-        none_there other same = by_slot (held tables.entries.items other) refl
+        none_there other same = by_slot (thing_in tables.entries.items other) refl
           where
-            by_slot : (o : Option Entry) → held tables.entries.items other ≡ o → ⊥
+            by_slot : (o : Option Entry) → thing_in tables.entries.items other ≡ o → ⊥
             by_slot None there = aid_some aid file_aid_some (sym (ap (λ (o : Option Entry). unwrap_or (option_map (λ e. e.aid) o) []) there) ∙ same)
             by_slot (Some entry) there = unused_slot other entry there (sym (domain_aid_is tables.entries.items other entry there) ∙ same)
 
@@ -197,24 +197,24 @@ module _ (page : ℕ → List ℕ) (tables : Tables) (said : registry.Registry) 
 
   -- what comes from an Executable Load File, by slots and by AIDs
   module _ (slot : ℕ) (aid : List ℕ) (at : aid_of tables (found.File slot) ≡ Some aid) where
-    file_there : (file : LoadFile) × (held tables.files.items slot ≡ Some file) × (file.aid ≡ aid)
+    file_there : (file : LoadFile) × (thing_in tables.files.items slot ≡ Some file) × (file.aid ≡ aid)
     file_there = (let file = found_file_named page tables said says slot aid at in (file.0, file.1, cc))
 
-    file_aid_is : (other : ℕ) (file : LoadFile) → held tables.files.items other ≡ Some file → file_aid tables.files.items other ≡ file.aid
+    file_aid_is : (other : ℕ) (file : LoadFile) → thing_in tables.files.items other ≡ Some file → file_aid tables.files.items other ≡ file.aid
     file_aid_is other file there = ap (λ (o : Option LoadFile). unwrap_or (option_map (λ f. f.aid) o) []) there
 
-    pub from_named : (other : ℕ) (entry : Entry) → held tables.entries.items other ≡ Some entry → entry.file ≡ slot → ComesFrom said aid entry.aid
+    pub from_named : (other : ℕ) (entry : Entry) → thing_in tables.entries.items other ≡ Some entry → entry.file ≡ slot → ComesFrom said aid entry.aid
     from_named other entry there from =
         let file = file_there in
         subst (λ (o : Option registry.Entry). MatchOption o ⊥ (λ e. e.file ≡ aid)) (sym (entry_in_slot page tables said says other entry there))
         (ap (file_aid tables.files.items) from ∙ file_aid_is slot file.0 file.1 ∙ file.2)
 
     pub from_slots : (named : List ℕ) → ComesFrom said aid named
-        → (other : ℕ) × (entry : Entry) × (held tables.entries.items other ≡ Some entry) × (entry.aid ≡ named) × IsFrom tables slot other
+        → (other : ℕ) × (entry : Entry) × (thing_in tables.entries.items other ≡ Some entry) × (entry.aid ≡ named) × IsFrom tables slot other
     from_slots named comes = by (entry_named said named) refl comes
       where
         by : (o : Option registry.Entry) → entry_named said named ≡ o → MatchOption o ⊥ (λ e. e.file ≡ aid)
-            → (other : ℕ) × (entry : Entry) × (held tables.entries.items other ≡ Some entry) × (entry.aid ≡ named) × IsFrom tables slot other
+            → (other : ℕ) × (entry : Entry) × (thing_in tables.entries.items other ≡ Some entry) × (entry.aid ≡ named) × IsFrom tables slot other
         by None is from = absurd from
         by (Some e) is from =
             (let there = slot_of_entry page tables said says named e is in

@@ -6,7 +6,7 @@ use Rattle.std.proofs.lemmas.Bool.{and_from, and_parts, cases_Bool, cases_lt, eq
 use Rattle.std.proofs.lemmas.List.{get_or_past}
 use Rattle.card_types.proofs.EntryNames.{one_entry_slot}
 use Rattle.card_types.proofs.SameAid.{same_aid_decides}
-use Rattle.content_rules.specs.Prelude.{HasOthersIn, HasSelected, IsFrom, IsInOrder, comes_from_slot, has_slot, held, is_file_of, is_other_of, same_aid}
+use Rattle.content_rules.specs.Prelude.{HasOthersIn, HasSelected, IsFrom, IsInOrder, comes_from_slot, has_slot, is_file_of, is_other_of, same_aid, thing_in}
 use Rattle.card_types.specs.declared.tables.Entry.{Entry}
 use Rattle.card_types.specs.declared.tables.Tables.{Tables}
 use Rattle.policy_machine.specs.declared.channels.TheConstants.{CHANNELS}
@@ -21,7 +21,7 @@ unless is told free = elim (cases_Bool is) [
 ]
 
 -- a slot that holds something is one of these
-pub held_within : {T : Type 0} (slots : List (Option T)) (slot : ℕ) (thing : T) → held slots slot ≡ Some thing → slot < length slots
+pub held_within : {T : Type 0} (slots : List (Option T)) (slot : ℕ) (thing : T) → thing_in slots slot ≡ Some thing → slot < length slots
 held_within slots slot thing at = elim (cases_lt slot (length slots)) [
   | inl low ↦ low
   | inr high ↦ (let none = get_or_past slots slot None high in cc)
@@ -40,15 +40,15 @@ module _ (live : Live) (slot : ℕ) where
 
 module _ (tables : Tables) where
   -- a slot with an entry from an Executable Load File
-  pub from_used : (file slot : ℕ) → IsFrom tables file slot → (entry : Entry) × (held tables.entries.items slot ≡ Some entry) × (entry.file ≡ file)
-  from_used file slot from = by (held tables.entries.items slot) refl from
+  pub from_used : (file slot : ℕ) → IsFrom tables file slot → (entry : Entry) × (thing_in tables.entries.items slot ≡ Some entry) × (entry.file ≡ file)
+  from_used file slot from = by (thing_in tables.entries.items slot) refl from
     where
-      by : (o : Option Entry) → held tables.entries.items slot ≡ o → MatchOption o ⊥ (λ entry. entry.file ≡ file)
-          → (entry : Entry) × (held tables.entries.items slot ≡ Some entry) × (entry.file ≡ file)
+      by : (o : Option Entry) → thing_in tables.entries.items slot ≡ o → MatchOption o ⊥ (λ entry. entry.file ≡ file)
+          → (entry : Entry) × (thing_in tables.entries.items slot ≡ Some entry) × (entry.file ≡ file)
       by None at is = absurd is
       by (Some entry) at is = (entry, at, is)
 
-  pub from_at : (file slot : ℕ) (entry : Entry) → held tables.entries.items slot ≡ Some entry → entry.file ≡ file → IsFrom tables file slot
+  pub from_at : (file slot : ℕ) (entry : Entry) → thing_in tables.entries.items slot ≡ Some entry → entry.file ≡ file → IsFrom tables file slot
   from_at file slot entry at is = subst (λ (o : Option Entry). MatchOption o ⊥ (λ e. e.file ≡ file)) (sym at) is
 
   pub source_searched : (file : ℕ) (is : Bool) → is ≡ list_any (comes_from_slot file) tables.entries.items → (is ≡ true) ↔ ((slot : ℕ) × IsFrom tables file slot)
@@ -62,7 +62,7 @@ module _ (tables : Tables) where
   )
 
   -- an entry is the domain of others where a search of entries and of Executable Load Files says so
-  module _ (order : IsInOrder tables) (slot : ℕ) (entry : Entry) (at : held tables.entries.items slot ≡ Some entry) where
+  module _ (order : IsInOrder tables) (slot : ℕ) (entry : Entry) (at : thing_in tables.entries.items slot ≡ Some entry) where
     pub entries_searched : list_any (is_other_of slot entry.aid) tables.entries.items ≡ true → HasOthersIn tables slot
     entries_searched some =
         let found = passing_slot (is_other_of slot entry.aid) refl tables.entries.items some in
@@ -72,7 +72,7 @@ module _ (tables : Tables) where
           found.0,
           other,
           (λ same.
-              (let one : other ≡ entry = (let here = found.2 in let there = ap (held tables.entries.items) same in cc) in
+              (let one : other ≡ entry = (let here = found.2 in let there = ap (thing_in tables.entries.items) same in cc) in
               let hit = (same_aid_decides other.aid entry.aid).1 (ap (λ (e : Entry). e.aid) one) in
               let missed = not-true (same_aid other.aid entry.aid) parts.1 in
               let clash = sym hit ∙ missed in

@@ -2,7 +2,7 @@
 use Rattle.std.proofs.Common.{◌≡◌, ◌≢◌, ◌↔◌, ◌⊎◌, inl, inr, ℕ, Bool, List, Option, Some, ap, sym, subst, ◌∙◌}
 use Rattle.std.specs.Prelude.{IsTrue, MatchOption, not}
 use Rattle.card_types.proofs.FoundNames.{found_entry_named, found_file_named, none_found_none_named}
-use Rattle.content_rules.specs.Prelude.{ActsIn, Admitted, ExtraditingFails, InstallData, IsAtOrAbove, IsDomainNamed, IsExtraditionOf, IsOutOfReach, IsUnapprovable, IsVerifier, Key, Represents, acting, aid_of, held, is_personalized}
+use Rattle.content_rules.specs.Prelude.{ActsIn, Admitted, ExtraditingFails, InstallData, IsAtOrAbove, IsDomainNamed, IsExtraditionOf, IsOutOfReach, IsUnapprovable, IsVerifier, Key, Represents, acting, aid_of, is_personalized, thing_in}
 use Rattle.card_types.specs.Registry as registry
 use Rattle.card_types.specs.declared.factory.TheConstants.{FACTORY_FILE, ISSUER}
 use Rattle.card_types.specs.declared.found.Found.{Found}
@@ -21,7 +21,7 @@ Unfit o = MatchOption o ⊥ (λ entry. entry.life ≢ is_personalized)
 
 -- the new domain is not personalized, or locked, where its slot says so
 pub fitness_told : (page : ℕ → List ℕ) (tables : Tables) (admitted : Admitted) → Represents page tables admitted.at.registry → (given : InstallData) (to : ℕ)
-    → aid_of tables (found.Entry to) ≡ Some given.first → (entry : Entry) → held tables.entries.items to ≡ Some entry
+    → aid_of tables (found.Entry to) ≡ Some given.first → (entry : Entry) → thing_in tables.entries.items to ≡ Some entry
     → (fit : Bool) → IsTrue fit ↔ (entry.life ≡ is_personalized) → IsTrue (not fit) ↔ ExtraditingFails admitted given EX5
 fitness_told page tables admitted says given to named entry at fit told =
     let there = entry_at page tables admitted.at.registry says to given.first named in

@@ -7,7 +7,7 @@ use Rattle.card_types.proofs.FoundNames.{found_entry_named, found_file_named, no
 use Rattle.card_types.proofs.Members.{contains_map, mapped}
 use Rattle.card_types.proofs.Room.{entry_room, no_entry_room}
 use Rattle.card_types.proofs.SameAid.{same_aid_decides}
-use Rattle.content_rules.specs.Prelude.{ActsIn, Admitted, Holds, InstallingFails, IsFileInCharge, IsFirstFree, IsInstallOf, IsLoadNamed, IsOutOfCharge, IsTakenAid, LoadSession, NoneFree, Represents, acting, aid_of, bits_of, entry_has, entry_named, exceeds_by, file_named, file_of, guarded_privileges, has, held, is_loaded_as, is_privileged, same_aid}
+use Rattle.content_rules.specs.Prelude.{ActsIn, Admitted, Holds, InstallingFails, IsFileInCharge, IsFirstFree, IsInstallOf, IsLoadNamed, IsOutOfCharge, IsTakenAid, LoadSession, NoneFree, Represents, acting, aid_of, bits_of, entry_has, entry_named, exceeds_by, file_named, file_of, guarded_privileges, has, is_loaded_as, is_privileged, same_aid, thing_in}
 use Rattle.card_types.specs.Registry as registry
 use Rattle.card_types.specs.declared.factory.TheConstants.{FACTORY_FILE, FACTORY_MODULE}
 use Rattle.card_types.specs.declared.found.Found.{Found}
@@ -57,29 +57,29 @@ loaded entries aid (Some name) (Some load) named = (
 
 module _ (page : ℕ → List ℕ) (tables : Tables) (domain : ℕ) (admitted : Admitted) (acts : ActsIn page tables domain admitted) where
   -- a guarded privilege that the domain does not hold
-  exceeding : (privileges : Privileges) → list_any (exceeds_by privileges (held tables.entries.items domain)) GUARDED ≡ true
+  exceeding : (privileges : Privileges) → list_any (exceeds_by privileges (thing_in tables.entries.items domain)) GUARDED ≡ true
       → (privilege : ℕ) × Contains guarded_privileges privilege × (has privilege privileges ≡ true) × (Holds admitted privilege → ⊥)
   exceeding privileges some =
-      let found = there_any (exceeds_by privileges (held tables.entries.items domain)) GUARDED some in
-      let parts = and_parts (has (bits_of found.0) privileges) (not (entry_has found.0 (held tables.entries.items domain))) found.2 in (
+      let found = there_any (exceeds_by privileges (thing_in tables.entries.items domain)) GUARDED some in
+      let parts = and_parts (has (bits_of found.0) privileges) (not (entry_has found.0 (thing_in tables.entries.items domain))) found.2 in (
         bits_of found.0,
         contains_map bits_of GUARDED found.0 found.1,
         parts.0,
-        λ holds. (let by_slot = holds_named page tables domain admitted acts found.0 ∙ holds in let clash = not-true (entry_has found.0 (held tables.entries.items domain)) parts.1 in cc),
+        λ holds. (let by_slot = holds_named page tables domain admitted acts found.0 ∙ holds in let clash = not-true (entry_has found.0 (thing_in tables.entries.items domain)) parts.1 in cc),
       )
 
   exceeds_some : (privileges : Privileges) → (privilege : ℕ) × Contains guarded_privileges privilege × (has privilege privileges ≡ true) × (Holds admitted privilege → ⊥)
-      → list_any (exceeds_by privileges (held tables.entries.items domain)) GUARDED ≡ true
+      → list_any (exceeds_by privileges (thing_in tables.entries.items domain)) GUARDED ≡ true
   exceeds_some privileges (privilege, among, given, lacks) =
       let one = mapped bits_of GUARDED privilege among in
-      any_there (exceeds_by privileges (held tables.entries.items domain)) GUARDED one.0 one.1
+      any_there (exceeds_by privileges (thing_in tables.entries.items domain)) GUARDED one.0 one.1
       (and_from _ _ (ap (λ (bit : ℕ). has bit privileges) one.2 ∙ given)
-      (not_from_false (entry_has one.0 (held tables.entries.items domain)) (false_from_ne_true (entry_has one.0 (held tables.entries.items domain))
+      (not_from_false (entry_has one.0 (thing_in tables.entries.items domain)) (false_from_ne_true (entry_has one.0 (thing_in tables.entries.items domain))
       (λ holds. lacks (subst (λ (bit : ℕ). is_privileged bit (entry_named admitted.at.registry (acting admitted)) ≡ true) one.2 (sym (holds_named page tables domain admitted acts one.0) ∙ holds))))))
 
   -- an Executable Load File that is not the factory's
   pub charge_told : (slot : ℕ) (aid : List ℕ) (within : Bool) → aid_of tables (found.File slot) ≡ Some aid → same_aid aid FACTORY_FILE ≡ false
-      → ((file : LoadFile) → held tables.files.items slot ≡ Some file → IsTrue within ↔ IsFileInCharge admitted.at.registry (acting admitted) (file_of page tables.entries.items file))
+      → ((file : LoadFile) → thing_in tables.files.items slot ≡ Some file → IsTrue within ↔ IsFileInCharge admitted.at.registry (acting admitted) (file_of page tables.entries.items file))
       → IsTrue (not within) ↔ IsOutOfCharge admitted aid
   charge_told slot aid within at other told =
       let named = found_file_named page tables admitted.at.registry acts.says slot aid at in
@@ -123,16 +123,16 @@ module _ (page : ℕ → List ℕ) (tables : Tables) (domain : ℕ) (admitted : 
     pub free : (IsTakenAid admitted request.aid → ⊥) → Fails II4 → ⊥
     free none fails = none (subst (IsTakenAid admitted) (sym is.aid) fails)
 
-    pub exceeds : (b : Bool) → b ≡ list_any (exceeds_by request.privileges (held tables.entries.items domain)) GUARDED → b ≡ true → Fails II6
+    pub exceeds : (b : Bool) → b ≡ list_any (exceeds_by request.privileges (thing_in tables.entries.items domain)) GUARDED → b ≡ true → Fails II6
     exceeds b told some = subst Exceeds is.privileges (exceeding request.privileges (sym told ∙ some))
       where
         Exceeds : Privileges → Type 0
         Exceeds privileges = (privilege : ℕ) × Contains guarded_privileges privilege × (has privilege privileges ≡ true) × (Holds admitted privilege → ⊥)
 
-    pub within : (b : Bool) → b ≡ list_any (exceeds_by request.privileges (held tables.entries.items domain)) GUARDED → b ≡ false → Fails II6 → ⊥
+    pub within : (b : Bool) → b ≡ list_any (exceeds_by request.privileges (thing_in tables.entries.items domain)) GUARDED → b ≡ false → Fails II6 → ⊥
     within b told none fails =
         let some = exceeds_some is.asked.privileges fails in
-        let same = ap (λ (privileges : Privileges). list_any (exceeds_by privileges (held tables.entries.items domain)) GUARDED) is.privileges in
+        let same = ap (λ (privileges : Privileges). list_any (exceeds_by privileges (thing_in tables.entries.items domain)) GUARDED) is.privileges in
         let clash : true ≡ false = sym some ∙ sym same ∙ sym told ∙ none in
         cc
 

@@ -8,10 +8,10 @@ use Rattle.policy_machine.specs.declared.management.RuleM.TheVariants.{M1, M2}
 use Rattle.policy_machine.specs.declared.load.RuleLO.TheVariants.{LO3, LO4, LO5, LO6}
 use Rattle.policy_machine.specs.declared.rule.Rule.{Rule}
 use Rattle.policy_machine.specs.declared.rule.Rule.TheVariants.{LO}
-use Rattle.policy_machine.proofs.FirstJoined.{first_behind, first_within}
+use Rattle.policy_machine.proofs.FirstJoined.{first_after, first_within}
 use Rattle.policy_machine.proofs.FirstLike.{first_of_group}
 use Rattle.policy_machine.proofs.LoadOfChannel.{of_load}
-use Rattle.policy_slots.proofs.ManagementFirst.{behind_management}
+use Rattle.policy_slots.proofs.ManagementFirst.{after_management}
 
 module _ (admitted : Admitted) where
   abbrev Fails : Rule → Type 0
@@ -21,7 +21,7 @@ module _ (admitted : Admitted) where
   pub number_decides : (found : Option RuleLO) → (ManagementFails admitted M1 → ⊥) × (ManagementFails admitted M2 → ⊥)
       → IsFirst (LoadingFails admitted) number_rules found → IsFirst Fails front_rules (option_map LO found)
   number_decides found managed first =
-      behind_management Fails (map LO number_rules) (option_map LO found) managed.0 managed.1 (first_of_group LO Fails number_rules found first)
+      after_management Fails (map LO number_rules) (option_map LO found) managed.0 managed.1 (first_of_group LO Fails number_rules found first)
 
   -- what fails before the block is looked at
   pub front_refuses : (rule : Rule) → IsFirst Fails front_rules (Some rule) → IsFirst Fails load_rules (Some rule)
@@ -31,16 +31,16 @@ module _ (admitted : Admitted) where
     abbrev block : Block
     block = block_of admitted.command
 
-    behind_front : (found : Option Rule) → IsFirst Fails (block_rules ++ last_rules) found → IsFirst Fails load_rules found
-    behind_front found first = first_behind Fails (block_rules ++ last_rules) front_rules found front first
+    after_front : (found : Option Rule) → IsFirst Fails (block_rules ++ last_rules) found → IsFirst Fails load_rules found
+    after_front found first = first_after Fails (block_rules ++ last_rules) front_rules found front first
 
     -- the causes why the block is not taken
     pub length_refuses : HasNoLength load block → IsFirst Fails load_rules (Some (LO LO3))
-    length_refuses fails = behind_front (Some (LO LO3)) (inl ((load, on, fails), refl))
+    length_refuses fails = after_front (Some (LO LO3)) (inl ((load, on, fails), refl))
 
     pub room_refuses : HasNoRoom admitted.at.registry load block → IsFirst Fails load_rules (Some (LO LO4))
     room_refuses fails =
-        behind_front (Some (LO LO4)) (inr (
+        after_front (Some (LO LO4)) (inr (
           (λ none. of_load admitted (λ l. HasNoLength l block) load on none fails.0 fails.1 fails.2),
           inl ((load, on, fails), refl),
         ))
@@ -51,7 +51,7 @@ module _ (admitted : Admitted) where
 
       pub count_refuses : HasOtherCount load block → IsFirst Fails load_rules (Some (LO LO5))
       count_refuses fails =
-          behind_front (Some (LO LO5)) (inr (
+          after_front (Some (LO LO5)) (inr (
             (λ none. of_load admitted (λ l. HasNoLength l block) load on none fails.0 fails.1 fails.2),
             inr (has_room, inl ((load, on, fails), refl)),
           ))
@@ -62,7 +62,7 @@ module _ (admitted : Admitted) where
 
         pub hash_refuses : HasOtherHash load block → IsFirst Fails load_rules (Some (LO LO6))
         hash_refuses fails =
-            behind_front (Some (LO LO6)) (inr (
+            after_front (Some (LO LO6)) (inr (
               (λ none. of_load admitted (λ l. HasNoLength l block) load on none fails.0 fails.1 fails.2),
               inr (has_room, inr (has_count, inl ((load, on, fails), refl))),
             ))
@@ -77,7 +77,7 @@ module _ (admitted : Admitted) where
 
           -- with the last one, the rules on it decide
           pub last_decides : (found : Option Rule) → IsFirst Fails last_rules found → IsFirst Fails load_rules found
-          last_decides found first = behind_front found (first_behind Fails last_rules block_rules found block_passes first)
+          last_decides found first = after_front found (first_after Fails last_rules block_rules found block_passes first)
 
           -- where more blocks come, none of the rules fails
           pub more_passes : admitted.command.p1 ≡ 0x00 → IsFirst Fails load_rules None

@@ -5,7 +5,7 @@ use Rattle.std.proofs.lemmas.Bool.Decides.{eqb_tells}
 use Rattle.std.proofs.lemmas.List.Elements.{All-contains}
 use Rattle.card_types.proofs.LeastOfList.{found_fits}
 use Rattle.card_types.proofs.SameAid.{same_aid_decides}
-use Rattle.content_rules.specs.Prelude.{ActsIn, Admitted, IsAtOrAbove, IsDomainNamed, IsForLast, IsLoadNamed, IsLoadOn, IsWellEntry, IsWellLoad, LoadSession, LoadingFails, Registry, Well, acting, aid_of, counted, domain_aid, entry_named, held, named_on, same_aid, with_block}
+use Rattle.content_rules.specs.Prelude.{ActsIn, Admitted, IsAtOrAbove, IsDomainNamed, IsForLast, IsLoadNamed, IsLoadOn, IsWellEntry, IsWellLoad, LoadSession, LoadingFails, Registry, Well, acting, after_block, aid_of, domain_aid, entry_named, named_on, same_aid, thing_in, with_block}
 use Rattle.card_types.specs.Registry as registry
 use Rattle.card_types.specs.declared.found.Found.TheVariants as found
 use Rattle.card_types.specs.declared.tables.Entry.{Entry}
@@ -32,7 +32,7 @@ named_on_channel entries name admitted named on = by admitted.at.volatile.load r
 
 -- with one more block it is named as the one that has counted it
 pub counted_named : (entries : List (Option Entry)) (name : Option LoadName) (load : LoadSession) (size : ℕ) (bytes : List ℕ) → IsLoadNamed entries name (Some load)
-    → IsLoadNamed entries (counted name) (Some (with_block load size bytes))
+    → IsLoadNamed entries (after_block name) (Some (with_block load size bytes))
 counted_named entries None load size bytes named = absurd named
 counted_named entries (Some name) load size bytes named = (named.0, named.1, named.2, ap (λ (n : ℕ). n + 1) named.3)
 
@@ -67,18 +67,18 @@ module _ (tables : Tables) (name : LoadName) (admitted : Admitted) (is_for : IsF
   named_last = named_on_channel tables.entries.items name admitted is_for.load.named is_for.load.on
 
   pub load_domain_at : aid_of tables (found.Entry name.domain) ≡ Some named_last.load.domain
-  load_domain_at = by (held tables.entries.items name.domain) refl
+  load_domain_at = by (thing_in tables.entries.items name.domain) refl
     where
       well : IsWellLoad admitted.at.registry admitted.at.volatile named_last.load
       well = subst (λ (l : Option LoadSession). MatchOption l (Unit {0}) (IsWellLoad admitted.at.registry admitted.at.volatile)) named_last.on.0 is_for.sound.fits.load
 
-      used : IsSome (held tables.entries.items name.domain) → aid_of tables (found.Entry name.domain) ≡ Some named_last.load.domain
+      used : IsSome (thing_in tables.entries.items name.domain) → aid_of tables (found.Entry name.domain) ≡ Some named_last.load.domain
       used some = named_by_slot tables name.domain some ∙ ap Some named_last.named.2
 
-      by : (o : Option Entry) → held tables.entries.items name.domain ≡ o → aid_of tables (found.Entry name.domain) ≡ Some named_last.load.domain
+      by : (o : Option Entry) → thing_in tables.entries.items name.domain ≡ o → aid_of tables (found.Entry name.domain) ≡ Some named_last.load.domain
       by None at = absurd (no_domain admitted.at.registry is_for.sound.well (subst (IsDomainNamed admitted.at.registry) (sym named_last.named.2 ∙ empty at) well.domain))
         where
-          empty : held tables.entries.items name.domain ≡ None → domain_aid tables.entries.items name.domain ≡ []
+          empty : thing_in tables.entries.items name.domain ≡ None → domain_aid tables.entries.items name.domain ≡ []
           empty none = rw none refl
       by (Some entry) at = used (subst IsSome (sym at) refl)
 

@@ -1,7 +1,7 @@
 -- The rules of INSTALL [for make selectable] after its form, by its request.
 use Rattle.std.proofs.Common.{◌≡◌, ◌≢◌, ℕ, List, [], ◌∷◌, Option, None, Some, refl, ap, sym, subst, ◌∙◌, inl, inr}
 use Rattle.std.specs.Prelude.{MatchOption}
-use Rattle.content_rules.specs.Prelude.{Above, ActsIn, Admitted, IsFirst, IsSelectableOf, MakingSelectableFails, MayManage, aid_of, domain_slot, entry_named, entry_of, held, is_installed, managed_selectable}
+use Rattle.content_rules.specs.Prelude.{Above, ActsIn, Admitted, IsFirst, IsSelectableOf, MakingSelectableFails, MayManage, aid_of, domain_slot, entry_named, entry_of, is_installed, managed_selectable, thing_in}
 use Rattle.card_types.specs.Registry as registry
 use Rattle.card_types.specs.declared.found.Found.TheVariants as found
 use Rattle.card_types.specs.declared.tables.Entry.{Entry}
@@ -43,7 +43,7 @@ module _ (page : ℕ → List ℕ) (tables : Tables) (domain : ℕ) (admitted : 
       ),
     )
 
-    module _ (above : Above (domain_slot tables.entries.items) domain slot) (entry : Entry) (at : held tables.entries.items slot ≡ Some entry) where
+    module _ (above : Above (domain_slot tables.entries.items) domain slot) (entry : Entry) (at : thing_in tables.entries.items slot ≡ Some entry) where
       below : Fails MS3 → ⊥
       below fails =
           fails (above_by_aids page tables admitted.at.registry acts.says acts.well domain slot _ _ (acting_at page tables domain admitted acts) there above)

@@ -3,7 +3,7 @@ use Rattle.std.proofs.Common.{◌≡◌, ◌≢◌, inl, inr, ℕ, List, [], ◌
 use Rattle.std.specs.Prelude.{MatchOption}
 use Rattle.std.proofs.lemmas.Bool.{cases_eq}
 use Rattle.card_types.proofs.Domains.{same_domain, used_from_step}
-use Rattle.content_rules.specs.Prelude.{Above, ActsIn, Admitted, HasOthersIn, IsPath, IsReceipterIn, domain_aid, domain_of, domain_slot, held}
+use Rattle.content_rules.specs.Prelude.{Above, ActsIn, Admitted, HasOthersIn, IsPath, IsReceipterIn, domain_aid, domain_of, domain_slot, thing_in}
 use Rattle.card_types.specs.declared.limits.TheConstants.{RECEIPT_LIMIT}
 use Rattle.card_types.specs.declared.tables.Entry.{Entry}
 use Rattle.card_types.specs.declared.tables.Tables.{Tables}
@@ -20,11 +20,11 @@ has_others tables slot from (next ∷ path) other leads = elim (cases_eq next sl
 ]
 
 module _ (page : ℕ → List ℕ) (tables : Tables) (domain : ℕ) (admitted : Admitted) (acts : ActsIn page tables domain admitted) (slot : ℕ) (is : IsReceipterIn tables admitted slot) where
-  used : (entry : Entry) × (held tables.entries.items slot ≡ Some entry)
-  used = by (held tables.entries.items slot) refl is.below
+  used : (entry : Entry) × (thing_in tables.entries.items slot ≡ Some entry)
+  used = by (thing_in tables.entries.items slot) refl is.below
     where
-      by : (o : Option Entry) → held tables.entries.items slot ≡ o → MatchOption o ⊥ (λ entry. entry.receipts ≢ RECEIPT_LIMIT)
-          → (entry : Entry) × (held tables.entries.items slot ≡ Some entry)
+      by : (o : Option Entry) → thing_in tables.entries.items slot ≡ o → MatchOption o ⊥ (λ entry. entry.receipts ≢ RECEIPT_LIMIT)
+          → (entry : Entry) × (thing_in tables.entries.items slot ≡ Some entry)
       by None at below = absurd below
       by (Some entry) at below = (entry, at)
 

@@ -2,7 +2,7 @@
 use Rattle.std.specs.Prelude.{◌≡◌, ◌≢◌, ◌⊎◌, ℕ, ◌<◌, ◌==◌, ◌&&◌, List, Bool, true, false, not, Option, None, Some, MatchOption}
 use Rattle.card_types.specs.Aid.{same_aid}
 use Rattle.card_types.specs.Found.{aid_of}
-use Rattle.card_types.specs.Represents.{held}
+use Rattle.card_types.specs.Represents.{thing_in}
 use Rattle.card_types.specs.declared.factory.TheConstants.{FACTORY_FILE}
 use Rattle.card_types.specs.declared.found.Found.{Found}
 use Rattle.card_types.specs.declared.found.Found.TheVariants.{Entry, File}
@@ -20,7 +20,7 @@ use Rattle.policy_slots.specs.declared.live.Live.{Live}
 
 -- the entry in the slot comes from the Executable Load File in another
 abbrev pub IsFrom : Tables → ℕ → ℕ → Type 0
-IsFrom tables file slot = MatchOption (held tables.entries.items slot) ⊥ (λ entry. entry.file ≡ file)
+IsFrom tables file slot = MatchOption (thing_in tables.entries.items slot) ⊥ (λ entry. entry.file ≡ file)
 
 -- the entry in the slot is to go: it is the thing, or it is related, as it comes from the thing
 abbrev pub IsToGoIn : Tables → Bool → Found → ℕ → Type 0
@@ -29,7 +29,7 @@ IsToGoIn tables related (File file) slot = (related ≡ true) × IsFrom tables f
 
 -- a channel has the entry in the slot selected
 abbrev pub HasSelected : Live → ℕ → Type 0
-HasSelected live slot = (number : ℕ) × (number < CHANNELS) × (held live.selected number ≡ Some slot)
+HasSelected live slot = (number : ℕ) × (number < CHANNELS) × (thing_in live.selected number ≡ Some slot)
 
 -- the load session is for the domain in the slot
 abbrev pub IsLoadDomain : Live → ℕ → Type 0
@@ -38,8 +38,8 @@ IsLoadDomain live slot = MatchOption live.load ⊥ (λ load. load.domain ≡ slo
 -- the slot is that of the domain of another entry, or of an Executable Load File
 abbrev pub HasOthersIn : Tables → ℕ → Type 0
 HasOthersIn tables slot =
-    ((other : ℕ) × (entry : Slot) × (other ≢ slot) × (held tables.entries.items other ≡ Some entry) × (entry.domain ≡ slot))
-    ⊎ ((other : ℕ) × (file : LoadFile) × (held tables.files.items other ≡ Some file) × (file.domain ≡ slot))
+    ((other : ℕ) × (entry : Slot) × (other ≢ slot) × (thing_in tables.entries.items other ≡ Some entry) × (entry.domain ≡ slot))
+    ⊎ ((other : ℕ) × (file : LoadFile) × (thing_in tables.files.items other ≡ Some file) × (file.domain ≡ slot))
 
 -- the entry in the slot is in use
 abbrev pub IsInUseIn : Tables → Live → ℕ → Type 0

@@ -3,7 +3,7 @@ use Rattle.std.specs.Prelude.{◌≡◌, ℕ, ◌≤◌, IsSome, List, Some, len
 use Rattle.apdu_core.specs.Apdu.{Apdu}
 use Rattle.card_types.specs.Found.{aid_of}
 use Rattle.card_types.specs.Registry.{Registry}
-use Rattle.card_types.specs.Represents.{Represents, domain_aid, held}
+use Rattle.card_types.specs.Represents.{Represents, domain_aid, thing_in}
 use Rattle.card_types.specs.Well.{Well}
 use Rattle.card_types.specs.declared.found.Found.TheVariants.{Entry}
 use Rattle.card_types.specs.declared.tables.Tables.{Tables}
@@ -33,4 +33,4 @@ pub record FindsMove (request : ExtraditionRequest) (tables : Tables) (found : E
   pub from : (page : ℕ → List ℕ) (said : Registry) → Represents page tables said → Well said
       → domain_aid tables.entries.items found.from ≡ domain_of_thing said request.aid
   pub to : aid_of tables (Entry found.to) ≡ Some request.to
-  pub old : IsSome (held tables.entries.items found.from)
+  pub old : IsSome (thing_in tables.entries.items found.from)

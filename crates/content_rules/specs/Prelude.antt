@@ -5,7 +5,7 @@ pub use Rattle.card_types.specs.Found.{aid_of}
 pub use Rattle.card_types.specs.Hierarchy.{IsPath}
 pub use Rattle.card_types.specs.Privileges.{ArePrivilegeBytes, authorized_management, bits_of, delegated_management, has}
 pub use Rattle.card_types.specs.Registry.{Entry, Key, Registry, domain_of, entry_named, file_named}
-pub use Rattle.card_types.specs.Represents.{IsInOrder, Represents, domain_aid, domain_slot, entry_of, file_aid, file_of, held}
+pub use Rattle.card_types.specs.Represents.{IsInOrder, Represents, domain_aid, domain_slot, entry_of, file_aid, file_of, thing_in}
 pub use Rattle.card_types.specs.Search.{IsFirstFree, NoneFree}
 pub use Rattle.card_types.specs.Well.{IsDomainNamed, IsWellEntry, IsWellFile, Well}
 pub use Rattle.content_rules.specs.DeleteObjectFound.{FindsThing, HasNoneFrom, HasOthersIn, HasSelected, IsAlone, IsFrom, IsInUseIn, IsLoadDomain, IsPartOutOfCharge, IsUnselected, comes_from_slot, has_slot, is_file_of, is_other_of}
@@ -37,13 +37,13 @@ pub use Rattle.policy_machine.specs.InstallLoad.{AsksToLoad, InstallLoadParamete
 pub use Rattle.policy_machine.specs.Load.{IsLoadOn, LoadFails, LoadParameters, LoadingFails, block_of, block_rules, front_rules, last_rules, load_rules, loading}
 pub use Rattle.policy_machine.specs.LoadBlocks.{Block, HasNoLength, HasNoRoom, HasOtherCount, HasOtherHash, with_block}
 pub use Rattle.policy_machine.specs.MakeSelectable.{AsksToMakeSelectable, MakeSelectableParameters, MakingSelectableFails, is_installed, managed_selectable}
-pub use Rattle.policy_machine.specs.Malformed.{IsRefusedBy}
+pub use Rattle.policy_machine.specs.Malformed.{FormRefuses}
 pub use Rattle.policy_machine.specs.ManagedForm.{JudgedForm, OwnFirst, command_form}
 pub use Rattle.policy_machine.specs.Management.{ManagementFails, acting}
 pub use Rattle.policy_machine.specs.Refusal.{IsFirst}
 pub use Rattle.policy_machine.specs.Sound.{IsHashLength, IsSound, IsWellLoad}
 pub use Rattle.policy_machine.specs.State.{Channel, LoadSession, Volatile, channel_at}
 pub use Rattle.policy_slots.specs.HoldersFound.{FindsConfirmer, IsReceipterIn, MayReceipt}
-pub use Rattle.policy_slots.specs.LiveEnds.{counted}
+pub use Rattle.policy_slots.specs.LiveEnds.{after_block}
 pub use Rattle.policy_slots.specs.StateShown.{ActsIn, ForActing, ForActingLive, IsLoadNamed, IsSelectedIn, RepresentsState}
 pub use Rattle.tokens_receipts.specs.Receipt.{with_length}

@@ -2,7 +2,7 @@
 
 ghost use Rattle.std.specs.Prelude.{◌≡◌, ◌↔◌, ℕ, IsSome, IsTrue, length};
 ghost use Rattle.std.specs.List.{list_any};
-ghost use Rattle.content_rules.specs.Prelude.{Above, HasOthersIn, IsFrom, IsInOrder, IsInUseIn, IsLoadDomain, domain_slot, held};
+ghost use Rattle.content_rules.specs.Prelude.{Above, HasOthersIn, IsFrom, IsInOrder, IsInUseIn, IsLoadDomain, domain_slot, thing_in};
 ghost use Rattle.content_rules.specs.DeleteObjectFound.{comes_from_slot as comes_from_slot_by, has_slot as has_slot_by, is_file_of as is_file_of_by, is_other_of as is_other_of_by};
 
 use card_types::{Aid, ENTRIES, Entry, LoadFile, Tables, in_slot};
@@ -74,7 +74,7 @@ fn has_file(files: &[Option<LoadFile>], slot: u8) -> bool
 // Whether the entry in a slot is the domain of another, or of an Executable Load File.
 fn has_others(tables: &Tables, slot: u8) -> bool
     requires in_order { IsInOrder tables.now }
-    requires used { IsSome (held tables.now.entries.items slot) }
+    requires used { IsSome (thing_in tables.now.entries.items slot) }
     ensures { IsTrue result ↔ HasOthersIn tables.now slot }
 {
     let entry = in_slot(&tables.entries, slot).unwrap();
@@ -84,7 +84,7 @@ fn has_others(tables: &Tables, slot: u8) -> bool
 // Whether the entry in a slot is in use.
 pub(crate) fn is_in_use(tables: &Tables, live: &Live, slot: u8) -> bool
     requires in_order { IsInOrder tables.now }
-    requires used { IsSome (held tables.now.entries.items slot) }
+    requires used { IsSome (thing_in tables.now.entries.items slot) }
     ensures { IsTrue result ↔ IsInUseIn tables.now live.now slot }
 {
     is_selected(live, slot) || is_loaded_into(live, slot) || has_others(tables, slot)

@@ -2,7 +2,7 @@
 
 ghost use Rattle.std.specs.Prelude.{◌≡◌, ◌↔◌, ◌≢◌, ◌⊎◌, ◌&&◌, ℕ, List, None, Some, IfNone, IfSome, IsTrue, refl, true};
 ghost use Rattle.std.specs.List.{list_any};
-ghost use Rattle.content_rules.specs.Prelude.{ActsIn, Admitted, AreElements, AreInstallParameters, Element, Entry, FindsSource, InstallParameters, IsInOrder, IsInstallOf, IsInstallRequest, IsLoadNamed, IsOutOfCharge, IsTakenAid, MayBeMade, Registry, Represents, Well, aid_of, authorized_management, delegated_management, exceeds_by, file_named, has, held, install_judgeable, is_loaded_as, managed_install, same_aid};
+ghost use Rattle.content_rules.specs.Prelude.{ActsIn, Admitted, AreElements, AreInstallParameters, Element, Entry, FindsSource, InstallParameters, IsInOrder, IsInstallOf, IsInstallRequest, IsLoadNamed, IsOutOfCharge, IsTakenAid, MayBeMade, Registry, Represents, Well, aid_of, authorized_management, delegated_management, exceeds_by, file_named, has, install_judgeable, is_loaded_as, managed_install, same_aid, thing_in};
 ghost use Rattle.card_types.specs.Well.{has_domain_privilege as has_domain_privilege_by};
 ghost use Rattle.card_types.specs.declared.factory.TheConstants.{FACTORY_FILE, FACTORY_MODULE};
 ghost use Rattle.card_types.specs.declared.found.Found.{Found as Thing};
@@ -199,14 +199,14 @@ fn exceeds(
     privileges: Privileges,
     privilege: Privileges,
 ) -> bool
-    ensures { result ≡ exceeds_by privileges (held entries.now domain) privilege }
+    ensures { result ≡ exceeds_by privileges (thing_in entries.now domain) privilege }
 {
     privileges.contains(privilege) && !holds(entries, domain, privilege)
 }
 
 // Whether a guarded one of the privileges is none of the domain in a slot.
 fn exceeds_domain(entries: &[Option<Slot>], domain: u8, privileges: Privileges) -> bool
-    ensures { result ≡ list_any (exceeds_by privileges (held entries.now domain)) GUARDED }
+    ensures { result ≡ list_any (exceeds_by privileges (thing_in entries.now domain)) GUARDED }
 {
     GUARDED.iter().any(|privilege| exceeds(entries, domain, privileges, *privilege))
 }

@@ -47,12 +47,12 @@ fn read_field(bytes: &[u8]) -> Option<(&[u8], &[u8])>
 }
 
 // The bytes that stand before others which end them.
-pub(crate) fn front<'a>(bytes: &'a [u8], behind: &[u8]) -> &'a [u8]
-    requires { length behind.now ≤ length bytes.now }
-    ensures before { (all : List ℕ) → bytes.now ≡ all ++ behind.now → result.now ≡ all }
+pub(crate) fn front<'a>(bytes: &'a [u8], rest: &[u8]) -> &'a [u8]
+    requires { length rest.now ≤ length bytes.now }
+    ensures before { (all : List ℕ) → bytes.now ≡ all ++ rest.now → result.now ≡ all }
     ensures short { length result.now ≤ length bytes.now }
 {
-    &bytes[..bytes.len() - behind.len()]
+    &bytes[..bytes.len() - rest.len()]
 }
 
 // The five fields that bytes are, or none where they are not five.

@@ -1,7 +1,7 @@
 //! LOAD (GlobalPlatform Card Specification 2.3.1, 9.3.5 and 11.6). Whether its block is taken is judged where the bytes are kept.
 
 ghost use Rattle.std.specs.Prelude.{◌≡◌, ◌≢◌, ◌↔◌, ◌<◌, ℕ, List, [], None, Some, IfErr, IfOk, IfSome, IsSome, IsTrue, OnOk, slice_index_or};
-ghost use Rattle.content_rules.specs.Prelude.{ActsIn, Admitted, FindsConfirmer, Holds, IsFirst, IsForLast, IsForLoad, IsInOrder, IsLoadOf, IsLoadOn, IsLoadRequest, IsRefusedBy, IsSound, LoadFails, LoadParameters, LoadSession, LoadingFails, MayReceipt, RepresentsState, delegated_management, front_rules, last_rules, loading, named_on, number_rules};
+ghost use Rattle.content_rules.specs.Prelude.{ActsIn, Admitted, FindsConfirmer, FormRefuses, Holds, IsFirst, IsForLast, IsForLoad, IsInOrder, IsLoadOf, IsLoadOn, IsLoadRequest, IsSound, LoadFails, LoadParameters, LoadSession, LoadingFails, MayReceipt, RepresentsState, delegated_management, front_rules, last_rules, loading, named_on, number_rules};
 ghost use Rattle.card_types.specs.declared.tables.Tables.{Tables as TheTables};
 ghost use Rattle.policy_machine.specs.declared.load.RuleLO.TheVariants.{LO7};
 
@@ -31,7 +31,7 @@ fn takes_p1(p1: u8) -> bool
 pub fn parse_load(p1: u8, p2: u8, body: &[u8]) -> Result<LoadRequest<'_>, Rule>
     ensures form { OnOk result (LoadParameters p1 × (body.now ≢ [])) }
     ensures means { IfOk result (λ request. IsLoadRequest request p1 p2 body.now) }
-    ensures refused { IfErr result (IsRefusedBy loading p1 p2 body.now) }
+    ensures refused { IfErr result (FormRefuses loading p1 p2 body.now) }
 {
     if !takes_p1(p1) {
         return Err(Rule::PS(RulePS::P));
@@ -137,8 +137,8 @@ pub fn judge_loaded(tables: &Tables, live: &Live, channel: u8) -> Option<Rule>
     requires in_order { IsInOrder tables.now }
     requires channel { channel < CHANNELS }
     requires opened { IsSome (slice_index_or live.now.selected channel None) }
-    ensures judged { (page : ℕ → List ℕ) (passed : Admitted) (load : LoadSession) → RepresentsState page tables.now live.now passed.at → IsSound passed.at
-        → channel ≡ passed.channel → IsLoadOn passed load → passed.command.p1 ≡ 0x80 → IsFirst (LoadFails passed) last_rules result }
+    ensures judged { (page : ℕ → List ℕ) (admitted : Admitted) (load : LoadSession) → RepresentsState page tables.now live.now admitted.at → IsSound admitted.at
+        → channel ≡ admitted.channel → IsLoadOn admitted load → admitted.command.p1 ≡ 0x80 → IsFirst (LoadFails admitted) last_rules result }
     ensures elsewhere { named_on channel live.now.load ≡ None → result ≡ None }
 {
     let domain = live.selected[usize::from(channel)].unwrap();

@@ -1,7 +1,7 @@
 //! INSTALL [for make selectable] (GlobalPlatform Card Specification 2.3.1, 9.3.3 and 11.5).
 
 ghost use Rattle.std.specs.Prelude.{◌≡◌, ◌↔◌, ◌≢◌, IfNone, IfSome, IsTrue, MatchOption, Option, refl, true};
-ghost use Rattle.content_rules.specs.Prelude.{AreGiven, IsInstalledWith, IsSelectableOf, IsSelectableRequest, MakeSelectableParameters, held, is_installed, managed_selectable, selectable_judgeable};
+ghost use Rattle.content_rules.specs.Prelude.{AreGiven, IsInstalledWith, IsSelectableOf, IsSelectableRequest, MakeSelectableParameters, is_installed, managed_selectable, selectable_judgeable, thing_in};
 
 use crate::install_fields::read_fields;
 use crate::parsed_request::ParsedRequest;
@@ -57,7 +57,7 @@ impl JudgedRequest for SelectableRequest<'_> {
 
     ghost told = { λ page tables live admitted. Unit {0} };
 
-    ghost finds = { λ request tables live domain slot. IsInstalledWith request.aid (held tables.entries.items slot) };
+    ghost finds = { λ request tables live domain slot. IsInstalledWith request.aid (thing_in tables.entries.items slot) };
 
     fn judge_own(&self, tables: &Tables, _live: &Live, domain: u8) -> Result<u8, Rule> {
         if !may_manage(tables, domain) {

@@ -5,7 +5,7 @@ use Rattle.card_types.proofs.NamedThings.{aid_cases}
 use Rattle.card_types.specs.ChangeLaws.{IsOfCard, MayMove}
 use Rattle.card_types.specs.Hierarchy.{IsPath}
 use Rattle.card_types.specs.Registry.{Registry, domain_of}
-use Rattle.card_types.specs.RegistryChange.{moved}
+use Rattle.card_types.specs.RegistryChange.{with_thing_in_domain}
 use Rattle.domain_tree.proofs.Compared.{above_further, both_ways}
 use Rattle.domain_tree.proofs.DomainsStay.{domains_after_move}
 use Rattle.domain_tree.specs.Above.{Above, AboveBelowMoved}
@@ -49,7 +49,7 @@ goes_on {A} step c from to (next ∷ apart) (other ∷ path) is leads up =
 module _ (registry : Registry) (aid domain : List ℕ) (of : IsOfCard registry) (may : MayMove registry aid domain) (a b : List ℕ)
     (below : Above (domain_of registry) aid b) where
   abbrev after : Registry
-  after = moved registry aid domain
+  after = with_thing_in_domain registry aid domain
 
   alike_back : (x : List ℕ) → x ≢ aid → domain_of registry x ≡ domain_of after x
   alike_back x other = sym (domains_after_move registry aid domain x other)

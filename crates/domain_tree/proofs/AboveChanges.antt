@@ -8,7 +8,7 @@ use Rattle.card_types.proofs.NamedThings.{aid_cases, domain_leads}
 use Rattle.card_types.proofs.RemovedThing.{none_steps}
 use Rattle.card_types.specs.ChangeLaws.{IsOfCard, MayAddEntry, MayMove}
 use Rattle.card_types.specs.Registry.{Entry, Registry, domain_of, entry_named, is_domain}
-use Rattle.card_types.specs.RegistryChange.{IsEntryAdded, moved, with_entries, without_entry}
+use Rattle.card_types.specs.RegistryChange.{IsEntryAdded, with_entries, with_thing_in_domain, without_entry}
 use Rattle.card_types.specs.Well.{IsDomainNamed}
 use Rattle.domain_tree.proofs.DomainsStay.{domains_after_change, domains_after_entry, domains_after_move}
 use Rattle.domain_tree.proofs.LinesStay.{above_while, same_above}
@@ -79,19 +79,19 @@ module _ (registry : Registry) (aid domain : List ℕ) (of : IsOfCard registry) 
     not_below = λ above. is.not_below (step_above (domain_of registry) aid x next steps (λ alike. is.other (sym alike)) (inr above));
   }
 
-  elsewhere_alike : (a b : List ℕ) → IsElsewhere b → Above (domain_of (moved registry aid domain)) a b ↔ Above (domain_of registry) a b
+  elsewhere_alike : (a b : List ℕ) → IsElsewhere b → Above (domain_of (with_thing_in_domain registry aid domain)) a b ↔ Above (domain_of registry) a b
   elsewhere_alike a b is =
-      same_above (domain_of registry) (domain_of (moved registry aid domain)) IsElsewhere stays_elsewhere (λ x here. domains_after_move registry aid domain x here.other) a b is
+      same_above (domain_of registry) (domain_of (with_thing_in_domain registry aid domain)) IsElsewhere stays_elsewhere (λ x here. domains_after_move registry aid domain x here.other) a b is
 
 pub above_others_of_moved : AboveOthersOfMoved
 above_others_of_moved registry aid domain of may a b other not_below =
     elsewhere_alike registry aid domain of may a b (record { other = other; not_below = not_below })
 
 module _ (registry : Registry) (aid domain : List ℕ) (of : IsOfCard registry) (may : MayMove registry aid domain) where
-  moved_steps : IsSome (entry_named registry aid) → domain_of (moved registry aid domain) aid ≡ Some domain
+  moved_steps : IsSome (entry_named registry aid) → domain_of (with_thing_in_domain registry aid domain) aid ≡ Some domain
   moved_steps some = by (entry_named registry aid) refl some
     where
-      by : (o : Option Entry) → entry_named registry aid ≡ o → IsSome o → domain_of (moved registry aid domain) aid ≡ Some domain
+      by : (o : Option Entry) → entry_named registry aid ≡ o → IsSome o → domain_of (with_thing_in_domain registry aid domain) aid ≡ Some domain
       by None at is = cc
       by (Some entry) at is = step_thing registry aid domain of may entry at
 
@@ -104,20 +104,20 @@ module _ (registry : Registry) (aid domain : List ℕ) (of : IsOfCard registry) 
   }
 
   thing_above : IsSome (entry_named registry aid) → domain ≢ aid → (a : List ℕ)
-      → Above (domain_of (moved registry aid domain)) a aid ↔ ((a ≡ domain) ⊎ Above (domain_of registry) a domain)
+      → Above (domain_of (with_thing_in_domain registry aid domain)) a aid ↔ ((a ≡ domain) ⊎ Above (domain_of registry) a domain)
   thing_above some other a =
       let steps = moved_steps some in
       let alike = elsewhere_alike registry aid domain of may a domain (new_elsewhere other) in (
-        λ above. elim (above_step (domain_of (moved registry aid domain)) aid_cases a aid domain steps above) [
+        λ above. elim (above_step (domain_of (with_thing_in_domain registry aid domain)) aid_cases a aid domain steps above) [
           | inl same ↦ inl same
           | inr higher ↦ inr (alike.0 higher)
         ],
         λ above. elim above [
-          | inl same ↦ step_above (domain_of (moved registry aid domain)) a aid domain steps (λ itself. other (sym same ∙ itself)) (inl same)
+          | inl same ↦ step_above (domain_of (with_thing_in_domain registry aid domain)) a aid domain steps (λ itself. other (sym same ∙ itself)) (inl same)
           | inr higher ↦
-              (let there = above_while (domain_of registry) (domain_of (moved registry aid domain)) (IsElsewhere registry aid domain of may)
+              (let there = above_while (domain_of registry) (domain_of (with_thing_in_domain registry aid domain)) (IsElsewhere registry aid domain of may)
               (stays_elsewhere registry aid domain of may) (λ x here. domains_after_move registry aid domain x here.other) a domain (new_elsewhere other) higher in
-              step_above (domain_of (moved registry aid domain)) a aid domain steps there.1.other (inr there.0))
+              step_above (domain_of (with_thing_in_domain registry aid domain)) a aid domain steps there.1.other (inr there.0))
         ],
       )
 
@@ -126,4 +126,4 @@ above_moved registry aid domain of may some other a = thing_above registry aid d
 
 pub none_above_root : NoneAboveRoot
 none_above_root registry aid of may some a above =
-    above.other (sym (root_alone (domain_of (moved registry aid aid)) aid a above.path (moved_steps registry aid aid of may some) above.leads))
+    above.other (sym (root_alone (domain_of (with_thing_in_domain registry aid aid)) aid a above.path (moved_steps registry aid aid of may some) above.leads))

@@ -4,7 +4,7 @@ use Rattle.std.specs.Prelude.{map}
 use Rattle.card_types.specs.Hierarchy.{IsPath}
 use Rattle.card_types.specs.Registry as registry
 use Rattle.card_types.specs.Registry.{domain_of}
-use Rattle.card_types.specs.Represents.{Represents, domain_aid, domain_slot, held}
+use Rattle.card_types.specs.Represents.{Represents, domain_aid, domain_slot, thing_in}
 use Rattle.card_types.specs.Well.{Well}
 use Rattle.card_types.specs.declared.tables.Entry.{Entry}
 use Rattle.card_types.specs.declared.tables.Tables.{Tables}
@@ -23,7 +23,7 @@ module _ (page : ℕ → List ℕ) (tables : Tables) (said : registry.Registry) 
   path_named from to (next ∷ path) leads = (step_named page tables said says from next leads.0, path_named next to path leads.1)
 
   -- what is above by slots is above by names
-  pub above_named : (a b : ℕ) (x y : Entry) → held tables.entries.items a ≡ Some x → held tables.entries.items b ≡ Some y
+  pub above_named : (a b : ℕ) (x y : Entry) → thing_in tables.entries.items a ≡ Some x → thing_in tables.entries.items b ≡ Some y
       → Above (domain_slot tables.entries.items) a b → Above (domain_of said) (domain_aid tables.entries.items a) (domain_aid tables.entries.items b)
   above_named a b x y at_a at_b above = record {
     other = λ alike. above.other (same_domain page tables said says a b x y at_a at_b alike);
@@ -36,18 +36,18 @@ module _ (page : ℕ → List ℕ) (tables : Tables) (said : registry.Registry) 
     free_of_loops slot entry at = line_in_slots page tables said says well slot entry at
 
     -- steps by slots lead to a used slot
-    path_to_used : (from to : ℕ) (entry : Entry) (path : List ℕ) → held entries from ≡ Some entry → IsPath (domain_slot entries) from path to
-        → (x : Entry) × (held entries to ≡ Some x)
-    path_to_used from to entry [] at leads = (entry, subst (λ (s : ℕ). held entries s ≡ Some entry) leads at)
+    path_to_used : (from to : ℕ) (entry : Entry) (path : List ℕ) → thing_in entries from ≡ Some entry → IsPath (domain_slot entries) from path to
+        → (x : Entry) × (thing_in entries to ≡ Some x)
+    path_to_used from to entry [] at leads = (entry, subst (λ (s : ℕ). thing_in entries s ≡ Some entry) leads at)
     path_to_used from to entry (next ∷ path) at leads =
         let domain = domain_is_used page tables said says well from entry at in
         let same : entry.domain ≡ next = (let steps = step_from_used entries from entry at in let on = leads.0 in cc) in
-        path_to_used next to domain.0 path (subst (λ (s : ℕ). held entries s ≡ Some domain.0) same domain.1) leads.1
+        path_to_used next to domain.0 path (subst (λ (s : ℕ). thing_in entries s ≡ Some domain.0) same domain.1) leads.1
 
     -- steps by names are steps by slots
-    path_in_slots : (from : ℕ) (entry : Entry) (path : List (List ℕ)) (aid : List ℕ) → held entries from ≡ Some entry
+    path_in_slots : (from : ℕ) (entry : Entry) (path : List (List ℕ)) (aid : List ℕ) → thing_in entries from ≡ Some entry
         → IsPath (domain_of said) (domain_aid entries from) path aid
-        → (to : ℕ) × (x : Entry) × (held entries to ≡ Some x) × (domain_aid entries to ≡ aid) × (slots : List ℕ) × IsPath (domain_slot entries) from slots to
+        → (to : ℕ) × (x : Entry) × (thing_in entries to ≡ Some x) × (domain_aid entries to ≡ aid) × (slots : List ℕ) × IsPath (domain_slot entries) from slots to
     path_in_slots from entry [] aid at leads = (from, entry, at, leads, [], refl)
     path_in_slots from entry (next ∷ path) aid at leads =
         let steps = step_from_used entries from entry at in
@@ -58,8 +58,8 @@ module _ (page : ℕ → List ℕ) (tables : Tables) (said : registry.Registry) 
         (rest.0, rest.1, rest.2, rest.3, entry.domain ∷ rest.4, (steps, rest.5))
 
     -- what is above by names is a used slot, and above by slots
-    pub slot_above : (b : ℕ) (y : Entry) (aid : List ℕ) → held tables.entries.items b ≡ Some y → Above (domain_of said) aid (domain_aid tables.entries.items b)
-        → (a : ℕ) × (x : Entry) × (held tables.entries.items a ≡ Some x) × (domain_aid tables.entries.items a ≡ aid) × Above (domain_slot tables.entries.items) a b
+    pub slot_above : (b : ℕ) (y : Entry) (aid : List ℕ) → thing_in tables.entries.items b ≡ Some y → Above (domain_of said) aid (domain_aid tables.entries.items b)
+        → (a : ℕ) × (x : Entry) × (thing_in tables.entries.items a ≡ Some x) × (domain_aid tables.entries.items a ≡ aid) × Above (domain_slot tables.entries.items) a b
     slot_above b y aid at_b above =
         let to = path_in_slots b y above.path aid at_b above.leads in (
           to.0,
@@ -73,7 +73,7 @@ module _ (page : ℕ → List ℕ) (tables : Tables) (said : registry.Registry) 
           },
         )
 
-    pub above_in_slots : (a b : ℕ) (x y : Entry) → held tables.entries.items a ≡ Some x → held tables.entries.items b ≡ Some y
+    pub above_in_slots : (a b : ℕ) (x y : Entry) → thing_in tables.entries.items a ≡ Some x → thing_in tables.entries.items b ≡ Some y
         → Above (domain_of said) (domain_aid tables.entries.items a) (domain_aid tables.entries.items b) → Above (domain_slot tables.entries.items) a b
     above_in_slots a b x y at_a at_b above =
         let to = slot_above b y (domain_aid entries a) at_b above in
@@ -81,8 +81,8 @@ module _ (page : ℕ → List ℕ) (tables : Tables) (said : registry.Registry) 
 
     -- the first above by slots is the first above by names, where a test by slots is one by names
     module _ (fits : ℕ → Bool) (named : List ℕ → Bool)
-        (alike : (slot : ℕ) (entry : Entry) → held tables.entries.items slot ≡ Some entry → fits slot ≡ named (domain_aid tables.entries.items slot)) where
-      pub first_above_named : (b first : ℕ) (y : Entry) → held tables.entries.items b ≡ Some y → IsFirstAbove (domain_slot tables.entries.items) fits b first
+        (alike : (slot : ℕ) (entry : Entry) → thing_in tables.entries.items slot ≡ Some entry → fits slot ≡ named (domain_aid tables.entries.items slot)) where
+      pub first_above_named : (b first : ℕ) (y : Entry) → thing_in tables.entries.items b ≡ Some y → IsFirstAbove (domain_slot tables.entries.items) fits b first
           → IsFirstAbove (domain_of said) named (domain_aid tables.entries.items b) (domain_aid tables.entries.items first)
       first_above_named b first y at_b is =
           let used = path_to_used b first y is.above.path at_b is.above.leads in
@@ -101,7 +101,7 @@ module _ (page : ℕ → List ℕ) (tables : Tables) (said : registry.Registry) 
                 (above_in_slots first to.0 used.0 to.1 used.1 to.2 (subst (λ (n : List ℕ). Above (domain_of said) (domain_aid entries first) n) (sym to.3) lower)));
           }
 
-      pub none_above_named : (b : ℕ) (y : Entry) → held tables.entries.items b ≡ Some y → NoneAbove (domain_slot tables.entries.items) fits b
+      pub none_above_named : (b : ℕ) (y : Entry) → thing_in tables.entries.items b ≡ Some y → NoneAbove (domain_slot tables.entries.items) fits b
           → NoneAbove (domain_of said) named (domain_aid tables.entries.items b)
       none_above_named b y at_b none aid above fit =
           let to = slot_above b y aid at_b above in

@@ -2,7 +2,7 @@
 use Rattle.std.proofs.Common.{◌≡◌, ◌≢◌, ◌⊎◌, inl, inr, ℕ, ◌+◌, ◌<◌, ◌≤◌, Bool, true, false, List, [], ◌∷◌, ◌++◌, length, Option, None, Some, refl, ap, sym, subst, ◌∙◌, arith}
 use Rattle.std.proofs.lemmas.Bool.{cases_eq}
 use Rattle.card_types.specs.Hierarchy.{IsLine, IsPath}
-use Rattle.card_types.specs.Represents.{domain_slot, held}
+use Rattle.card_types.specs.Represents.{domain_slot, thing_in}
 use Rattle.card_types.specs.declared.tables.Entry.{Entry}
 use Rattle.card_types.proofs.Domains.{step_from_used, used_from_step}
 use Rattle.card_types.proofs.LeastSoFar.{within_slots}
@@ -26,13 +26,13 @@ module _ (step : ℕ → Option ℕ) where
   above_next a b next steps above = above_step step cases_eq a b next steps above
 
   -- after the first the line is shorter
-  pub line_behind : (from next : ℕ) (line : List ℕ) → IsLine step from line → step from ≡ Some next → next ≢ from
+  pub line_after : (from next : ℕ) (line : List ℕ) → IsLine step from line → step from ≡ Some next → next ≢ from
       → (rest : List ℕ) × IsLine step next rest × (length rest < length line)
-  line_behind from next [] is steps on = absurd is
-  line_behind from next (x ∷ []) is steps on =
+  line_after from next [] is steps on = absurd is
+  line_after from next (x ∷ []) is steps on =
       let root : next ≡ from = (let itself = is.1 in cc) in
       absurd (on root)
-  line_behind from next (x ∷ y ∷ line) is steps on =
+  line_after from next (x ∷ y ∷ line) is steps on =
       let same : y ≡ next = (let second = is.2 in cc) in
       (y ∷ line, subst (λ (n : ℕ). IsLine step n (y ∷ line)) same is.3, omega arith)
 
@@ -60,7 +60,7 @@ module _ (step : ℕ → Option ℕ) where
 
 -- The climb so far: all that is looked for above the first is above this one too.
 pub record IsReached (entries : List (Option Entry)) (fits : ℕ → Bool) (from at count : ℕ) : Type 0 where
-  pub line : (entry : Entry) → held entries at ≡ Some entry → (line : List ℕ) × IsLine (domain_slot entries) at line × (length line + count ≤ length entries)
+  pub line : (entry : Entry) → thing_in entries at ≡ Some entry → (line : List ℕ) × IsLine (domain_slot entries) at line × (length line + count ≤ length entries)
   pub up : (at ≡ from) ⊎ Above (domain_slot entries) at from
   pub rest : (a : ℕ) → Above (domain_slot entries) a from → fits a ≡ true → Above (domain_slot entries) a at
 
@@ -75,37 +75,37 @@ module _ (entries : List (Option Entry)) (fits : ℕ → Bool) (free : IsFreeOfL
   }
 
   -- the line of the slot below
-  from_line : (from at : ℕ) (entry : Entry) → held entries at ≡ Some entry → (at ≡ from) ⊎ Above (domain_slot entries) at from
+  from_line : (from at : ℕ) (entry : Entry) → thing_in entries at ≡ Some entry → (at ≡ from) ⊎ Above (domain_slot entries) at from
       → (line : List ℕ) × IsLine (domain_slot entries) from line
   from_line from at entry here up = elim up [
-    | inl same ↦ free from entry (subst (λ (s : ℕ). held entries s ≡ Some entry) same here)
+    | inl same ↦ free from entry (subst (λ (s : ℕ). thing_in entries s ≡ Some entry) same here)
     | inr above ↦
         (let steps = steps_from (domain_slot entries) at from above in
         let used = used_from_step entries from steps.0 steps.1 in
         free from used.0 used.1)
   ]
 
-  pub climbs : (from at count : ℕ) (entry : Entry) → held entries at ≡ Some entry → entry.domain ≢ at → IsReached entries fits from at count
+  pub climbs : (from at count : ℕ) (entry : Entry) → thing_in entries at ≡ Some entry → entry.domain ≢ at → IsReached entries fits from at count
       → Above (domain_slot entries) entry.domain from
   climbs from at count entry here on reached =
       let line = from_line from at entry here reached.up in
       next_above (domain_slot entries) from at entry.domain line.0 line.1 reached.up (step_from_used entries at entry here) on
 
   -- the domain of an entry is in one of the slots
-  pub domain_within : (at : ℕ) (entry : Entry) → held entries at ≡ Some entry → entry.domain ≢ at → entry.domain < length entries
+  pub domain_within : (at : ℕ) (entry : Entry) → thing_in entries at ≡ Some entry → entry.domain ≢ at → entry.domain < length entries
   domain_within at entry here on =
       let line = free at entry here in
-      let rest = line_behind (domain_slot entries) at entry.domain line.0 line.1 (step_from_used entries at entry here) on in
+      let rest = line_after (domain_slot entries) at entry.domain line.0 line.1 (step_from_used entries at entry here) on in
       let steps = line_steps (domain_slot entries) entry.domain rest.0 rest.1 in
       let used = used_from_step entries entry.domain steps.0 steps.1 in
       within_slots entries entry.domain used.0 used.1
 
-  pub reached_next : (from at count : ℕ) (entry : Entry) → held entries at ≡ Some entry → entry.domain ≢ at → fits entry.domain ≡ false
+  pub reached_next : (from at count : ℕ) (entry : Entry) → thing_in entries at ≡ Some entry → entry.domain ≢ at → fits entry.domain ≡ false
       → IsReached entries fits from at count → IsReached entries fits from entry.domain (count + 1)
   reached_next from at count entry here on misfit reached = record {
     line = λ domain there.
         (let line = reached.line entry here in
-        let rest = line_behind (domain_slot entries) at entry.domain line.0 line.1 (step_from_used entries at entry here) on in
+        let rest = line_after (domain_slot entries) at entry.domain line.0 line.1 (step_from_used entries at entry here) on in
         (rest.0, rest.1, omega (arith, rest.2, line.2)));
     up = inr (climbs from at count entry here on reached);
     rest = λ a above fit.
@@ -115,7 +115,7 @@ module _ (entries : List (Option Entry)) (fits : ℕ → Bool) (free : IsFreeOfL
         ];
   }
 
-  pub first_above_reached : (from at count : ℕ) (entry : Entry) → held entries at ≡ Some entry → entry.domain ≢ at → fits entry.domain ≡ true
+  pub first_above_reached : (from at count : ℕ) (entry : Entry) → thing_in entries at ≡ Some entry → entry.domain ≢ at → fits entry.domain ≡ true
       → IsReached entries fits from at count → IsFirstAbove (domain_slot entries) fits from entry.domain
   first_above_reached from at count entry here on fit reached = record {
     above = climbs from at count entry here on reached;
@@ -124,19 +124,19 @@ module _ (entries : List (Option Entry)) (fits : ℕ → Bool) (free : IsFreeOfL
     none_lower = λ a above fits_too lower.
         (let steps = step_from_used entries at entry here in
         let line = free at entry here in
-        let rest = line_behind (domain_slot entries) at entry.domain line.0 line.1 steps on in
+        let rest = line_after (domain_slot entries) at entry.domain line.0 line.1 steps on in
         elim (above_next (domain_slot entries) a at entry.domain steps (reached.rest a above fits_too)) [
           | inl same ↦ lower.other (sym same)
           | inr higher ↦ lower.other (lead_to_each_other (domain_slot entries) entry.domain a rest.0 higher.path lower.path rest.1 higher.leads lower.leads)
         ]);
   }
 
-  pub none_above_reached : (from at count : ℕ) (entry : Entry) → held entries at ≡ Some entry → entry.domain ≡ at
+  pub none_above_reached : (from at count : ℕ) (entry : Entry) → thing_in entries at ≡ Some entry → entry.domain ≡ at
       → IsReached entries fits from at count → NoneAbove (domain_slot entries) fits from
   none_above_reached from at count entry here root reached a above fit =
       none_above_root (domain_slot entries) a at (step_from_used entries at entry here ∙ ap Some root) (reached.rest a above fit)
 
-  pub none_above_free : (from at count : ℕ) → held entries at ≡ None → IsReached entries fits from at count → NoneAbove (domain_slot entries) fits from
+  pub none_above_free : (from at count : ℕ) → thing_in entries at ≡ None → IsReached entries fits from at count → NoneAbove (domain_slot entries) fits from
   none_above_free from at count none reached a above fit =
       let steps = steps_from (domain_slot entries) a at (reached.rest a above fit) in
       let used = used_from_step entries at steps.0 steps.1 in

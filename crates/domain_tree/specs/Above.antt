@@ -4,7 +4,7 @@ use Rattle.std.specs.Prelude.{◌≡◌, ◌≢◌, ◌⊎◌, Bool, true, List,
 use Rattle.card_types.specs.ChangeLaws.{IsOfCard, MayAddEntry, MayMove, MayRemoveEntry}
 use Rattle.card_types.specs.Hierarchy.{IsPath}
 use Rattle.card_types.specs.Registry.{Entry, Registry, domain_of, entry_named}
-use Rattle.card_types.specs.RegistryChange.{IsEntryAdded, moved, with_entries, without_entry}
+use Rattle.card_types.specs.RegistryChange.{IsEntryAdded, with_entries, with_thing_in_domain, without_entry}
 
 -- a is another than b, and steps lead from b to it
 pub record Above {A : Type 0} (step : A → Option A) (a b : A) : Type 0 where
@@ -55,25 +55,25 @@ AboveChanged =
 abbrev pub AboveMoved : Type 0
 AboveMoved =
     (registry : Registry) (aid domain : List ℕ) → IsOfCard registry → MayMove registry aid domain → IsSome (entry_named registry aid) → domain ≢ aid
-    → (a : List ℕ) → IsAboveIn (moved registry aid domain) a aid ↔ ((a ≡ domain) ⊎ IsAboveIn registry a domain)
+    → (a : List ℕ) → IsAboveIn (with_thing_in_domain registry aid domain) a aid ↔ ((a ≡ domain) ⊎ IsAboveIn registry a domain)
 
 -- none is above an entry that is its own domain then
 abbrev pub NoneAboveRoot : Type 0
 NoneAboveRoot =
     (registry : Registry) (aid : List ℕ) → IsOfCard registry → MayMove registry aid aid → IsSome (entry_named registry aid)
-    → (a : List ℕ) → IsAboveIn (moved registry aid aid) a aid → ⊥
+    → (a : List ℕ) → IsAboveIn (with_thing_in_domain registry aid aid) a aid → ⊥
 
 -- above what is below a thing that is moved are those up to the thing, and those above it then
 abbrev pub AboveBelowMoved : Type 0
 AboveBelowMoved =
     (registry : Registry) (aid domain : List ℕ) → IsOfCard registry → MayMove registry aid domain → (a b : List ℕ) → IsAboveIn registry aid b
-    → IsAboveIn (moved registry aid domain) a b ↔ ((IsAboveIn registry a b × (IsAboveIn registry a aid → ⊥)) ⊎ IsAboveIn (moved registry aid domain) a aid)
+    → IsAboveIn (with_thing_in_domain registry aid domain) a b ↔ ((IsAboveIn registry a b × (IsAboveIn registry a aid → ⊥)) ⊎ IsAboveIn (with_thing_in_domain registry aid domain) a aid)
 
 -- above any other thing are those as before
 abbrev pub AboveOthersOfMoved : Type 0
 AboveOthersOfMoved =
     (registry : Registry) (aid domain : List ℕ) → IsOfCard registry → MayMove registry aid domain → (a b : List ℕ) → b ≢ aid → (IsAboveIn registry aid b → ⊥)
-    → IsAboveIn (moved registry aid domain) a b ↔ IsAboveIn registry a b
+    → IsAboveIn (with_thing_in_domain registry aid domain) a b ↔ IsAboveIn registry a b
 
 -- above what is left where an entry is removed are those as before
 abbrev pub AboveRemoved : Type 0

@@ -3,7 +3,7 @@ use Rattle.std.specs.Prelude.{◌≡◌, ◌≢◌, ◌⊎◌, ◌↔◌, List, 
 use Rattle.card_types.specs.ChangeLaws.{IsOfCard}
 use Rattle.card_types.specs.Hierarchy.{IsLine}
 use Rattle.card_types.specs.Registry.{Entry, Registry, domain_of, entry_named}
-use Rattle.card_types.specs.RegistryChange.{IsEntryAdded, moved, with_entries, without_applications, without_entry}
+use Rattle.card_types.specs.RegistryChange.{IsEntryAdded, with_entries, with_thing_in_domain, without_applications, without_entry}
 use Rattle.card_types.specs.Well.{IsDomainNamed}
 use Rattle.domain_tree.specs.Above.{IsFirstAbove, NoneAbove, IsAboveIn}
 
@@ -50,7 +50,7 @@ DomainsAfterEntry = (registry : Registry) (aid x : List ℕ) → x ≢ aid → d
 
 -- what is another thing than the one that is moved keeps its domain
 abbrev pub DomainsAfterMove : Type 0
-DomainsAfterMove = (registry : Registry) (aid domain x : List ℕ) → x ≢ aid → domain_of (moved registry aid domain) x ≡ domain_of registry x
+DomainsAfterMove = (registry : Registry) (aid domain x : List ℕ) → x ≢ aid → domain_of (with_thing_in_domain registry aid domain) x ≡ domain_of registry x
 
 -- what is another thing than the entry that is added keeps its domain
 abbrev pub DomainsAfterEntryAdded : Type 0

@@ -8,7 +8,7 @@ use Rattle.flash_core.specs.declared.page.Page.{Page}
 use Rattle.flash_core.specs.declared.memory.Call.{Call}
 use Rattle.flash_core.specs.declared.memory.Call.TheVariants.{Write, Sync}
 use Rattle.flash_core.specs.Device.{SameBut, NoneNew, AnyBytesIn, Only, Elapses}
-use Rattle.flash_core.specs.Replay.{Medium, settled, after_call, after_calls, MayLeave}
+use Rattle.flash_core.specs.Replay.{Medium, settled_medium, after_call, after_calls, MayLeave}
 use Rattle.flash_core.specs.Memory.{MemoryFlash, medium, medium_at, LeftSince, CutBy}
 use Rattle.flash_core.specs.MemoryLaws.{at_the_end}
 use Rattle.flash_core.proofs.PageLists.{get_set_same, get_set_other, length_set, same_lists}
@@ -26,7 +26,7 @@ abbrev pub with_fault : MemoryFlash → MemoryFlash
 with_fault m = record m { faults = next_count m.faults }
 
 pub medium_with : (m : MemoryFlash) (call : Call) → medium (with_call m call) ≡ after_call (medium m) call
-medium_with m call = after_push (settled m.first) m.calls call
+medium_with m call = after_push (settled_medium m.first) m.calls call
 
 none_true : (n page : ℕ) → slice_get (replicate n false) page ≢ Some true
 none_true zero page is = absurd (cc is)
@@ -38,9 +38,9 @@ synced m kept written k w = λ i. record { seen = m.seen; kept = sym k i; writte
 
 -- nothing is pending
 pub at_first : (first seen kept : List Page) (written : List Bool) (calls : List Call) (pages : List Page) → first ≡ pages → seen ≡ pages → kept ≡ pages → written ≡ replicate (length pages) false → calls ≡ []
-    → after_calls (settled first) calls ≡ record { seen = seen; kept = kept; written = written }
+    → after_calls (settled_medium first) calls ≡ record { seen = seen; kept = kept; written = written }
 at_first first seen kept written calls pages f s k w none =
-    ap (after_calls (settled first)) none ∙ ap settled f ∙ (λ i. record { seen = sym s i; kept = sym k i; written = sym w i })
+    ap (after_calls (settled_medium first)) none ∙ ap settled_medium f ∙ (λ i. record { seen = sym s i; kept = sym k i; written = sym w i })
 
 -- after a sync
 pub synced_only : (m : Medium) → Only m.seen (MayLeave (after_call m Sync))
@@ -93,7 +93,7 @@ elapses m call = record {
     more = length-append m.calls (call ∷ [])
 
     earlier : (moment : ℕ) → moment ≤ length m.calls → medium_at n moment ≡ medium_at m moment
-    earlier moment le = ap (after_calls (settled m.first)) (take-append-le moment m.calls (call ∷ []) le)
+    earlier moment le = ap (after_calls (settled_medium m.first)) (take-append-le moment m.calls (call ∷ []) le)
 
     went : (t : ℕ) (outcome : List Page) → (since : LeftSince n t outcome) → (length m.calls < since.moment) ⊎ (since.moment ≤ length m.calls) → LeftSince m t outcome ⊎ MayLeave (medium n) outcome
     went t outcome since (inr le) = inl (record { moment = since.moment; later = since.later; past = le; left = subst (λ (x : Medium). MayLeave x outcome) (earlier since.moment le) since.left })

@@ -2,7 +2,7 @@
 use Rattle.std.specs.Prelude.{◌≡◌, ℕ, ◌+◌, ◌%◌, ◌^◌, ◌≤◌, Bool, true, false, if◌then◌else◌, ◌==◌, List, Some, length, take, replicate, slice_get}
 use Rattle.flash_core.specs.declared.page.Page.{Page}
 use Rattle.flash_core.specs.declared.memory.Call.{Call}
-use Rattle.flash_core.specs.Replay.{Medium, settled, after_calls, MayLeave}
+use Rattle.flash_core.specs.Replay.{Medium, settled_medium, after_calls, MayLeave}
 
 pub record MemoryFlash : Type 0 where
   pub first : List Page
@@ -12,11 +12,11 @@ pub record MemoryFlash : Type 0 where
 
 -- the medium after the calls so far
 abbrev pub medium : MemoryFlash → Medium
-medium m = after_calls (settled m.first) m.calls
+medium m = after_calls (settled_medium m.first) m.calls
 
 -- the medium after the first of them
 abbrev pub medium_at : MemoryFlash → ℕ → Medium
-medium_at m moment = after_calls (settled m.first) (take moment m.calls)
+medium_at m moment = after_calls (settled_medium m.first) (take moment m.calls)
 
 -- power lost at some moment since that one might have left these pages
 pub record LeftSince (m : MemoryFlash) (since : ℕ) (outcome : List Page) : Type 0 where
@@ -26,8 +26,8 @@ pub record LeftSince (m : MemoryFlash) (since : ℕ) (outcome : List Page) : Typ
   pub left : MayLeave (medium_at m moment) outcome
 
 -- a page with the same byte throughout
-abbrev pub filled : ℕ → Page
-filled byte = record { bytes = replicate 256 byte }
+abbrev pub uniform_page : ℕ → Page
+uniform_page byte = record { bytes = replicate 256 byte }
 
 -- What a power cut with this seed leaves of a page: a written one comes back as the last sync kept it, or stays as it
 -- was written last, or is torn.
@@ -35,7 +35,7 @@ abbrev pub cut_page : ℕ → ℕ → Page → Page → Bool → Page
 cut_page seed page seen kept false = seen
 cut_page seed page seen kept true =
     let way = ((seed + page) % 2 ^ 64) % 3 in
-    if way == 0 then kept else (if way == 1 then seen else filled (((seed + page) % 2 ^ 64) % 256))
+    if way == 0 then kept else (if way == 1 then seen else uniform_page (((seed + page) % 2 ^ 64) % 256))
 
 -- a power cut with this seed leaves these pages
 pub record CutBy (seed : ℕ) (m : Medium) (pages : List Page) : Type 0 where

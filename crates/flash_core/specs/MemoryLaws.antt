@@ -3,12 +3,12 @@ use Rattle.std.specs.Prelude.{◌≡◌, ℕ, ◌≤◌, List, length, refl}
 use Rattle.std.proofs.Common.{sym, ap, subst, arith}
 use Rattle.std.proofs.lemmas.List.{take_all}
 use Rattle.flash_core.specs.declared.page.Page.{Page}
-use Rattle.flash_core.specs.Replay.{Medium, settled, after_calls, MayLeave}
+use Rattle.flash_core.specs.Replay.{Medium, settled_medium, after_calls, MayLeave}
 use Rattle.flash_core.specs.Memory.{MemoryFlash, medium, medium_at, LeftSince}
 
 -- after all the calls it is as it is now
 pub at_the_end : (m : MemoryFlash) (moment : ℕ) → length m.calls ≤ moment → medium_at m moment ≡ medium m
-at_the_end m moment all = ap (after_calls (settled m.first)) (take_all moment m.calls all)
+at_the_end m moment all = ap (after_calls (settled_medium m.first)) (take_all moment m.calls all)
 
 pub left_as_read : (m : MemoryFlash) → MayLeave (medium m) (medium m).seen
 left_as_read m = record { count = refl; others = λ page written. refl }

@@ -12,8 +12,8 @@ pub record Medium : Type 0 where
   pub written : List Bool
 
 -- nothing is pending
-abbrev pub settled : List Page → Medium
-settled pages = record { seen = pages; kept = pages; written = replicate (length pages) false }
+abbrev pub settled_medium : List Page → Medium
+settled_medium pages = record { seen = pages; kept = pages; written = replicate (length pages) false }
 
 -- the medium after one call
 abbrev pub after_call : Medium → Call → Medium

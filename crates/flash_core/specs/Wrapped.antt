@@ -9,7 +9,7 @@ pub record Faulty (F P : Type 0) : Type 0 where
   pub refused : ℕ
 
 -- a call of it was refused: it did not reach the device inside
-pub record IsRefused {F P T E : Type 0} (old new : Faulty F P) (result : Result T E) : Type 0 where
+pub record IsCallRefused {F P T E : Type 0} (old new : Faulty F P) (result : Result T E) : Type 0 where
   pub failed : IsErr result
   pub inner : new.inner ≡ old.inner
   pub refused : new.refused ≡ next_count old.refused

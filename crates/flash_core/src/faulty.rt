@@ -3,7 +3,7 @@
 ghost use Rattle.std.specs.Prelude.{◌≡◌, ◌+◌, ◌<◌, Some, true, false, slice_get, OnOk, OnErr};
 ghost use Rattle.faults.specs.Faults.{HasCause, next_count};
 ghost use Rattle.flash_core.specs.Device.{SameBut, NoneNew, AnyBytesIn, Only, Elapses};
-ghost use Rattle.flash_core.specs.Wrapped.{Faulty, IsRefused};
+ghost use Rattle.flash_core.specs.Wrapped.{Faulty, IsCallRefused};
 ghost use Rattle.flash_core.specs.declared.plan.CallKind.TheVariants.{Read, Write, Sync};
 
 use crate::flash::{Flash, FlashFailed};
@@ -87,7 +87,7 @@ impl<F: Flash, P: FaultPlan> Flash for FaultyFlash<F, P> {
         ensures loss { F.tells → NoneNew (F.may_leave self.old.inner) (F.may_leave self.new.inner) }
         ensures time { F.tells → Elapses (F.moment self.old.inner) (F.moment self.new.inner) (F.left_since self.old.inner) (F.left_since self.new.inner) (F.may_leave self.new.inner) }
         ensures cause { HasCause (F.faults self.old.inner + self.old.refused) (F.faults self.new.inner + self.new.refused) result }
-        ensures refused { P.lets_pass self.old.plan Read ≡ false → IsRefused self.old self.new result }
+        ensures refused { P.lets_pass self.old.plan Read ≡ false → IsCallRefused self.old self.new result }
         ensures passed { P.lets_pass self.old.plan Read ≡ true → self.new.refused ≡ self.old.refused }
         ensures counted { self.new.plan ≡ P.after self.old.plan Read }
     {
@@ -102,7 +102,7 @@ impl<F: Flash, P: FaultPlan> Flash for FaultyFlash<F, P> {
         ensures loss { F.tells → AnyBytesIn page (F.may_leave self.old.inner) (F.may_leave self.new.inner) }
         ensures time { F.tells → Elapses (F.moment self.old.inner) (F.moment self.new.inner) (F.left_since self.old.inner) (F.left_since self.new.inner) (F.may_leave self.new.inner) }
         ensures cause { HasCause (F.faults self.old.inner + self.old.refused) (F.faults self.new.inner + self.new.refused) result }
-        ensures refused { P.lets_pass self.old.plan Write ≡ false → IsRefused self.old self.new result }
+        ensures refused { P.lets_pass self.old.plan Write ≡ false → IsCallRefused self.old self.new result }
         ensures passed { P.lets_pass self.old.plan Write ≡ true → self.new.refused ≡ self.old.refused }
         ensures counted { self.new.plan ≡ P.after self.old.plan Write }
     {
@@ -116,7 +116,7 @@ impl<F: Flash, P: FaultPlan> Flash for FaultyFlash<F, P> {
         ensures loss { F.tells → NoneNew (F.may_leave self.old.inner) (F.may_leave self.new.inner) }
         ensures time { F.tells → Elapses (F.moment self.old.inner) (F.moment self.new.inner) (F.left_since self.old.inner) (F.left_since self.new.inner) (F.may_leave self.new.inner) }
         ensures cause { HasCause (F.faults self.old.inner + self.old.refused) (F.faults self.new.inner + self.new.refused) result }
-        ensures refused { P.lets_pass self.old.plan Sync ≡ false → IsRefused self.old self.new result }
+        ensures refused { P.lets_pass self.old.plan Sync ≡ false → IsCallRefused self.old self.new result }
         ensures passed { P.lets_pass self.old.plan Sync ≡ true → self.new.refused ≡ self.old.refused }
         ensures counted { self.new.plan ≡ P.after self.old.plan Sync }
     {

@@ -3,7 +3,7 @@
 ghost use Rattle.std.specs.Prelude.{◌≡◌, ◌↔◌, ◌<◌, ◌≤◌, ◌++◌, List, [], ◌∷◌, ℕ, Some, None, true, false, length, replicate, slice_get, slice_index, slice_set, vec_len, vec_capacity, IsErr, IsOk, IfOk, OnOk, OnErr};
 ghost use Rattle.faults.specs.Faults.{HasCause, next_count};
 ghost use Rattle.flash_core.specs.Device.{SameBut, NoneNew, AnyBytesIn, Only, Elapses};
-ghost use Rattle.flash_core.specs.Memory.{cut_page as cut_page_of, CutBy, filled};
+ghost use Rattle.flash_core.specs.Memory.{cut_page as cut_page_of, CutBy, uniform_page};
 ghost use Rattle.flash_core.specs.declared.page.TheConstants.{PAGES};
 
 use crate::flash::{Flash, FlashFailed};
@@ -33,7 +33,7 @@ pub struct MemFlash {
 impl Model for MemFlash {
     ghost use Rattle.std.specs.Prelude.{◌≡◌, ◌≤◌, length, vec_len, vec_capacity};
     ghost use Rattle.flash_core.specs.Memory.{MemoryFlash};
-    ghost use Rattle.flash_core.specs.Replay.{settled, after_calls};
+    ghost use Rattle.flash_core.specs.Replay.{settled_medium, after_calls};
     ghost use Rattle.flash_core.specs.declared.page.TheConstants.{PAGES};
 
     ghost Value = { MemoryFlash };
@@ -45,7 +45,7 @@ impl Model for MemFlash {
         × (vec_len m.seen ≡ PAGES)
         × (vec_len m.kept ≡ PAGES)
         × (vec_len m.written ≡ PAGES)
-        × (after_calls (settled m.first.items) m.calls.items ≡ record { seen = m.seen.items; kept = m.kept.items; written = m.written.items })
+        × (after_calls (settled_medium m.first.items) m.calls.items ≡ record { seen = m.seen.items; kept = m.kept.items; written = m.written.items })
         × (vec_len m.calls ≤ m.room)
         × (m.room ≤ vec_capacity m.calls) };
 }
@@ -57,7 +57,7 @@ impl MemFlash {
     /// Pages of zeros with nothing pending, and room for so many writes and syncs. `AllocError` is want of
     /// memory for the pages and that room.
     pub fn new(alloc: Global, room: u32) -> Result<MemFlash, AllocError>
-        ensures { IfOk result (λ m. m ≡ record { first = replicate PAGES (filled 0); calls = []; room = room; faults = 0 }) }
+        ensures { IfOk result (λ m. m ≡ record { first = replicate PAGES (uniform_page 0); calls = []; room = room; faults = 0 }) }
     {
         Ok(MemFlash {
             first: zero_pages(alloc)?,
@@ -122,7 +122,7 @@ impl MemFlash {
 }
 
 fn zero_pages(alloc: Global) -> Result<Vec<Page>, AllocError>
-    ensures { IfOk result (λ pages. pages.items ≡ replicate PAGES (filled 0)) }
+    ensures { IfOk result (λ pages. pages.items ≡ replicate PAGES (uniform_page 0)) }
 {
     Vec::from_elem(alloc, Page { bytes: [0; 256] }, PAGES as usize)
 }

@@ -7,7 +7,7 @@ use Rattle.flash_core.specs.declared.page.Page.{Page}
 use Rattle.flash_core.proofs.PageLists.{get_set_same, get_set_other, length_set}
 use Rattle.frame_pool.specs.declared.pool.Frame.{Frame}
 use Rattle.frame_pool.specs.Entries.{entries, AreLinked}
-use Rattle.frame_pool.specs.Staged.{staged, with_page, with_bytes_at, AreDistinct}
+use Rattle.frame_pool.specs.Staged.{staged_at, with_page, with_bytes_at, AreDistinct}
 
 abbrev Pages : Type 0
 Pages = List (ℕ × Page)
@@ -44,7 +44,7 @@ first pages e number none = none zero e refl
 rest : (pages : Pages) (e : ℕ × Page) (number : ℕ) → NoneHas (e ∷ pages) number → NoneHas pages number
 rest pages e number none = λ k s is. none (suc k) s is
 
-pub none_staged : (pages : Pages) (number : ℕ) → NoneHas pages number → staged pages number ≡ None
+pub none_staged : (pages : Pages) (number : ℕ) → NoneHas pages number → staged_at pages number ≡ None
 none_staged [] number none = refl
 none_staged (e ∷ pages) number none = let ne = first pages e number none in let tail = none_staged pages number (rest pages e number none) in grind (arith, nat_tests)
 
@@ -60,7 +60,7 @@ pub last_get : (pages : Pages) (e : ℕ × Page) → slice_get (pages ++ e ∷ [
 last_get [] e = refl
 last_get (f ∷ pages) e = last_get pages e
 
-pub found_staged : (pages : Pages) (at number : ℕ) (page : Page) → slice_get pages at ≡ Some (number, page) → NoneBefore pages at number → staged pages number ≡ Some page
+pub found_staged : (pages : Pages) (at number : ℕ) (page : Page) → slice_get pages at ≡ Some (number, page) → NoneBefore pages at number → staged_at pages number ≡ Some page
 found_staged [] at number page is none = absurd (cc is)
 found_staged (e ∷ pages) zero number page is none = let here : e ≡ (number, page) = cc is in rw here (grind (arith, nat_tests))
 found_staged (e ∷ pages) (suc at) number page is none = let ne : e.0 ≢ number = none zero e (omega arith) refl in

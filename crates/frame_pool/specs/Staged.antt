@@ -3,9 +3,9 @@ use Rattle.std.specs.Prelude.{◌≡◌, ℕ, zero, suc, if◌then◌else◌, �
 use Rattle.flash_core.specs.declared.page.Page.{Page}
 
 -- the page with this number, where it is staged
-abbrev pub staged : List (ℕ × Page) → ℕ → Option Page
-staged [] number = None
-staged (first ∷ rest) number = if first.0 == number then Some first.1 else staged rest number
+abbrev pub staged_at : List (ℕ × Page) → ℕ → Option Page
+staged_at [] number = None
+staged_at (first ∷ rest) number = if first.0 == number then Some first.1 else staged_at rest number
 
 -- the list with this page in its place, or after the others where it was not staged
 abbrev pub with_page : List (ℕ × Page) → ℕ → Page → List (ℕ × Page)

@@ -3,10 +3,10 @@
 ghost use Rattle.std.specs.Prelude.{◌≡◌, ◌≢◌, ◌⊎◌, ◌+◌, ◌-◌, ◌<◌, ◌≤◌, List, [], ℕ, Some, None, length, slice_get, take, IfOk, IsSome, IfSome, IfNone, option_map, unwrap_or};
 ghost use Rattle.std.specs.Borrow.{sem};
 ghost use Rattle.flash_core.specs.declared.page.Page.{Page as PageOf};
-ghost use Rattle.flash_core.specs.Memory.{filled};
+ghost use Rattle.flash_core.specs.Memory.{uniform_page};
 ghost use Rattle.core.specs.Mem.Slots.{slots_items, slots_len, IsFull};
 ghost use Rattle.frame_pool.specs.Entries.{entries, AreLinked};
-ghost use Rattle.frame_pool.specs.Staged.{staged, with_page, with_bytes_at, AreDistinct};
+ghost use Rattle.frame_pool.specs.Staged.{staged_at, with_page, with_bytes_at, AreDistinct};
 
 use core::slots::{Lease, Slots, release, reserve};
 use flash_core::Page;
@@ -117,7 +117,7 @@ impl FramePool {
 
     /// A staged page by its number.
     pub fn get(&self, page: u16) -> Option<&Page>
-        ensures { option_map (λ r. r.now) result ≡ staged self.now page }
+        ensures { option_map (λ r. r.now) result ≡ staged_at self.now page }
     {
         match find(&self.frames, self.len, page) {
             Some(at) => Some(&self.frames.get(at).page),
@@ -136,9 +136,9 @@ impl FramePool {
 
     /// Lends a page for writing: the one that is staged, or another of zeros after the others.
     pub fn stage(&mut self, page: u16) -> &mut Page
-        requires { IsSome (staged self.old page) ⊎ (length self.old < 30) }
+        requires { IsSome (staged_at self.old page) ⊎ (length self.old < 30) }
         ensures* writes_back { sem 𝓛 (LendsPage self.entry page result) }
-        ensures value { result.now ≡ unwrap_or (staged self.old page) (filled 0) }
+        ensures value { result.now ≡ unwrap_or (staged_at self.old page) (uniform_page 0) }
     {
         let at = self.place(page);
         self.lend(at)
@@ -146,8 +146,8 @@ impl FramePool {
 
     // The place of a page, which is added after the others where it was not staged.
     fn place(&mut self, page: u16) -> usize
-        requires { IsSome (staged self.old page) ⊎ (length self.old < 30) }
-        ensures found { slice_get self.new result ≡ Some (page, unwrap_or (staged self.old page) (filled 0)) }
+        requires { IsSome (staged_at self.old page) ⊎ (length self.old < 30) }
+        ensures found { slice_get self.new result ≡ Some (page, unwrap_or (staged_at self.old page) (uniform_page 0)) }
         ensures bytes { (w : PageOf) → with_bytes_at self.new result w ≡ with_page self.old page w }
     {
         match find(&self.frames, self.len, page) {

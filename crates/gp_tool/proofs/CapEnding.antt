@@ -9,7 +9,7 @@ use Rattle.cap_pack.specs.Pack.{pack}
 use Rattle.cap_pack.specs.declared.cap.Cap.{Cap}
 use Rattle.faults.specs.Faults.{Rose}
 use Rattle.io_edge.specs.Streams.{SinkState, SourceState}
-use Rattle.line_runs.specs.Ends.{EndsAt}
+use Rattle.line_runs.specs.Ends.{LinesEndAt}
 use Rattle.line_runs.specs.Outside.{Outside, outside}
 use Rattle.line_runs.specs.declared.ending.LinesEnd.{LinesEnd}
 use Rattle.line_runs.specs.declared.ending.LinesEnd.TheVariants as lines
@@ -33,7 +33,7 @@ packed cap aids all same is = (
 
 -- all lines were joined, and something was written of their bytes
 module _ {reads : Type 0} (writes : Type 0) (old : Outside) (source : SourceState) (mid later : SinkState) (course : CapCourse reads old (outside source mid))
-    (at : EndsAt writes old (outside source mid) course lines.Finished) (bytes : List ℕ) (spelled : SpellLines course.given bytes)
+    (at : LinesEndAt writes old (outside source mid) course lines.Finished) (bytes : List ℕ) (spelled : SpellLines course.given bytes)
     (none : concat course.texts ≡ []) (flushes : later.flushes ≡ old.sink.flushes) where
   -- the lines have written nothing
   silent : writes → mid.written ≡ old.sink.written
@@ -60,7 +60,7 @@ module _ {reads : Type 0} (writes : Type 0) (old : Outside) (source : SourceStat
 
 -- the lines ended before the end of the input
 pub stopped_ends : {reads : Type 0} (writes : Type 0) (old new : Outside) (course : CapCourse reads old new) (end : LinesEnd) → end ≢ lines.Finished
-    → EndsAt writes old new course end → CapEndsAt writes old new course (ending_of_lines end false)
+    → LinesEndAt writes old new course end → CapEndsAt writes old new course (ending_of_lines end false)
 stopped_ends writes old new course lines.Finished other at = absurd (other refl)
 stopped_ends writes old new course lines.WriteFault other at = inl at
 stopped_ends writes old new course lines.Failed other at = (let fault = at.0 in absurd fault.fails)

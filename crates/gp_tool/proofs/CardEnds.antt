@@ -8,7 +8,7 @@ use Rattle.policy_machine.specs.State.{State, powered_on}
 use Rattle.policy_machine.specs.Step.{Outcome, Step}
 use Rattle.gp_tool.proofs.Counting.{count_further, few_none}
 use Rattle.gp_tool.proofs.Moments.{among_first, among_more, joins, left_now, nothing_done, one_of_two, run_ends}
-use Rattle.gp_tool.specs.CardEnd.{Comes, Counting, HasCome, HasStopped}
+use Rattle.gp_tool.specs.CardEnd.{Comes, Counting, HasStopped, HaveCome}
 use Rattle.gp_tool.specs.Counted.{CountsOn}
 use Rattle.gp_tool.specs.Device.{LeavesOneOf, registries}
 
@@ -47,7 +47,7 @@ module _ {F : Type 0} (device : Flash F) where
     done = few_none card.done card.done refl;
   })
 
-  module _ (start old new : Counting F) (first : State) (inputs : List Input) (come : HasCome device start old first inputs) where
+  module _ (start old new : Counting F) (first : State) (inputs : List Input) (come : HaveCome device start old first inputs) where
     -- power lost since the start
     leaves_since : (more : List Outcome) → LeavesOneOf device old.card.flash new.card.flash (registries come.last more)
         → LeavesOneOf device start.card.flash new.card.flash (registries first (come.outcomes ++ more))
@@ -103,7 +103,7 @@ module _ {F : Type 0} (device : Flash F) where
     })
 
   -- a card that goes on has come
-  pub has_come : (old new : Counting F) (first : State) (inputs : List Input) (live : Bool) → live ≡ true → Comes device old new first inputs live → HasCome device old new first inputs
+  pub has_come : (old new : Counting F) (first : State) (inputs : List Input) (live : Bool) → live ≡ true → Comes device old new first inputs live → HaveCome device old new first inputs
   has_come old new first inputs live is comes = subst (λ (l : Bool). Comes device old new first inputs l) is comes
 
   pub has_stopped : (old new : Counting F) (first : State) (inputs : List Input) (live : Bool) → live ≡ false → Comes device old new first inputs live → HasStopped device old new first inputs

@@ -10,23 +10,23 @@ use Rattle.policy_machine.specs.Step.{Outcome}
 use Rattle.line_runs.proofs.ComeFirst.{lines_come, shrinks}
 use Rattle.line_runs.specs.Exit.{exit_status}
 use Rattle.gp_tool.specs.Around.{Around}
-use Rattle.gp_tool.specs.Effects.{Effect, Place}
+use Rattle.gp_tool.specs.Effects.{LineEffect, LinePlace}
 use Rattle.gp_tool.specs.Ends.{Ends, EndCause, IsBad}
 use Rattle.line_runs.specs.Outside.{Outside}
 use Rattle.line_runs.specs.Taken.{room_ahead}
 use Rattle.gp_tool.specs.Going.{Reached}
 use Rattle.gp_tool.specs.RunsLines.{AreServable, HasForm, Memory, RunsLines, start}
-use Rattle.gp_tool.specs.Verbs.{IsDone}
+use Rattle.gp_tool.specs.Verbs.{IsDoneStatus}
 use Rattle.line_runs.specs.declared.exit.Ending.{Ending}
 use Rattle.line_runs.specs.declared.exit.Ending.TheVariants.{Finished, Differs, BadLine, Failed, ReadFault, WriteFault, InputTooLong}
 use Rattle.gp_tool.specs.declared.verb.Verb.{Verb}
 use Rattle.gp_tool.specs.declared.verb.Verb.TheVariants as verb
 
 -- a line that comes after others is good
-good_after : (v : Verb) (number : ℕ) (given : List (List ℕ)) (line : List ℕ) (more : List (List ℕ)) (at last : Place (Memory v)) (effect : Effect)
+good_after : (v : Verb) (number : ℕ) (given : List (List ℕ)) (line : List ℕ) (more : List (List ℕ)) (at last : LinePlace (Memory v)) (effect : LineEffect)
     → RunsLines v number given at effect last → AreServable v number (given ++ line ∷ more) at → HasForm v line last.memory × (length line ≤ LINE_LIMIT)
 good_after v number [] line more at last effect runs good =
-    subst (λ (place : Place (Memory v)). HasForm v line place.memory × (length line ≤ LINE_LIMIT)) (sym runs.1) (good.0, good.1)
+    subst (λ (place : LinePlace (Memory v)). HasForm v line place.memory × (length line ≤ LINE_LIMIT)) (sym runs.1) (good.0, good.1)
 good_after v number (first ∷ given) line more at last effect runs good =
     good_after v (number + 1) given line more runs.1 last runs.2 runs.4 (good.2 runs.0 runs.1 runs.3)
 
@@ -39,7 +39,7 @@ never_cut input given ahead cut reached short is_cut =
     let full = is_cut.full in
     omega arith
 
-module _ (v : Verb) (input : List ℕ) (at last : Place (Memory v)) (given : List (List ℕ)) (effect : Effect) (ahead : List ℕ)
+module _ (v : Verb) (input : List ℕ) (at last : LinePlace (Memory v)) (given : List (List ℕ)) (effect : LineEffect) (ahead : List ℕ)
     (runs : RunsLines v 1 given at effect last) (reached : Reached input given ahead) (good : AreServable v 1 (lines input) at) (short : length input < INPUT_LIMIT) where
   -- a line that comes next is good
   good_next : (room : ℕ) (line after : List ℕ) → IsNextLine room ahead line after → HasForm v line last.memory × (length line ≤ LINE_LIMIT)
@@ -61,25 +61,25 @@ module _ (v : Verb) (input : List ℕ) (at last : Place (Memory v)) (given : Lis
       ]
 
 -- no reply of `run` and `why` is compared
-run_never_differs : (number : ℕ) (lines : List (List ℕ)) (at last : Place (Unit {0})) (effect : Effect) → RunsLines verb.Run number lines at effect last → effect.differs ≡ false
-run_never_differs number [] at last effect none = ap (λ (e : Effect). e.differs) none.0
+run_never_differs : (number : ℕ) (lines : List (List ℕ)) (at last : LinePlace (Unit {0})) (effect : LineEffect) → RunsLines verb.Run number lines at effect last → effect.differs ≡ false
+run_never_differs number [] at last effect none = ap (λ (e : LineEffect). e.differs) none.0
 run_never_differs number (line ∷ lines) at last effect some =
     let first = some.3 in
-    ap (λ (e : Effect). e.differs) some.5 ∙ (λ i. first.4 i || run_never_differs (number + 1) lines some.1 last some.2 some.4 i)
+    ap (λ (e : LineEffect). e.differs) some.5 ∙ (λ i. first.4 i || run_never_differs (number + 1) lines some.1 last some.2 some.4 i)
 
-why_never_differs : (number : ℕ) (lines : List (List ℕ)) (at last : Place (Unit {0})) (effect : Effect) → RunsLines verb.Why number lines at effect last → effect.differs ≡ false
-why_never_differs number [] at last effect none = ap (λ (e : Effect). e.differs) none.0
+why_never_differs : (number : ℕ) (lines : List (List ℕ)) (at last : LinePlace (Unit {0})) (effect : LineEffect) → RunsLines verb.Why number lines at effect last → effect.differs ≡ false
+why_never_differs number [] at last effect none = ap (λ (e : LineEffect). e.differs) none.0
 why_never_differs number (line ∷ lines) at last effect some =
     let first = some.3 in
-    ap (λ (e : Effect). e.differs) some.5 ∙ (λ i. first.4 i || why_never_differs (number + 1) lines some.1 last some.2 some.4 i)
+    ap (λ (e : LineEffect). e.differs) some.5 ∙ (λ i. first.4 i || why_never_differs (number + 1) lines some.1 last some.2 some.4 i)
 
-done_finished : (v : Verb) → IsDone v 0
+done_finished : (v : Verb) → IsDoneStatus v 0
 done_finished verb.Run = refl
 done_finished verb.Why = refl
 done_finished verb.Replay = inl refl
 done_finished verb.Play = inl refl
 
-done_differs : (v : Verb) (lines : List (List ℕ)) (at last : Place (Memory v)) (effect : Effect) → RunsLines v 1 lines at effect last → effect.differs ≡ true → IsDone v 8
+done_differs : (v : Verb) (lines : List (List ℕ)) (at last : LinePlace (Memory v)) (effect : LineEffect) → RunsLines v 1 lines at effect last → effect.differs ≡ true → IsDoneStatus v 8
 done_differs verb.Run lines at last effect runs differs = (let never = run_never_differs 1 lines at last effect runs in cc (never, differs))
 done_differs verb.Why lines at last effect runs differs = (let never = why_never_differs 1 lines at last effect runs in cc (never, differs))
 done_differs verb.Replay lines at last effect runs differs = inr refl
@@ -88,7 +88,7 @@ done_differs verb.Play lines at last effect runs differs = inr refl
 module _ (v : Verb) (reads writes : Type 0) (Rests : List Outcome → State → Type 0) (Fails : List Outcome → State → Outcome → Type 0) (first : State) (before later : Outside) (old new : Around ℕ ℕ ℕ) where
   pub is_done : (ending : Ending) → EndCause ending old new → Ends v reads writes Rests Fails first ending before later → reads
       → AreServable v 1 (lines before.source.left) (start v first) → length before.source.left < INPUT_LIMIT
-      → (Rose old.source new.source → ⊥) → (Rose old.sink new.sink → ⊥) → (Rose old.flash new.flash → ⊥) → IsDone v (exit_status ending)
+      → (Rose old.source new.source → ⊥) → (Rose old.sink new.sink → ⊥) → (Rose old.flash new.flash → ⊥) → IsDoneStatus v (exit_status ending)
   is_done Finished cause ends told good short no_read no_write no_flash = done_finished v
   is_done Differs cause ends told good short no_read no_write no_flash =
       let course = ends.course in

@@ -2,7 +2,7 @@
 use Rattle.std.proofs.Common.{◌≡◌, ◌⊎◌, ◌≤◌, ℕ, arith, Bool, true, false, refl, ap, subst, ◌∙◌, inl, inr}
 use Rattle.faults.specs.Faults.{Rose}
 use Rattle.io_edge.specs.Streams.{SinkState, SourceState}
-use Rattle.line_runs.specs.Ends.{Course, EndsAt, Faults, IsCutOff, left_at}
+use Rattle.line_runs.specs.Ends.{Faults, IsCutOff, LinesCourse, LinesEndAt, left_at}
 use Rattle.line_runs.specs.Ends as lines_ends
 use Rattle.line_runs.specs.Outside.{Outside, outside}
 use Rattle.line_runs.specs.Taker.{Taker}
@@ -18,14 +18,14 @@ use Rattle.line_runs.specs.declared.exit.Ending.TheVariants.{Finished, Differs, 
 
 -- at the end of the input the taker is left after the last line
 pub left_finished : {T : Type 0} {does : Taker T} {reads : Type 0} {first : T} (writes : Type 0) (old new : Outside)
-    (course : Course does reads first old.source.left new.source.left) (end : LinesEnd) (at : EndsAt writes old new course end) → end ≡ lines.Finished
+    (course : LinesCourse does reads first old.source.left new.source.left) (end : LinesEnd) (at : LinesEndAt writes old new course end) → end ≡ lines.Finished
     → left_at writes old new course end at ≡ course.last
 left_finished writes old new course lines.WriteFault at is = cc is
 left_finished writes old new course lines.Failed at is = cc is
 left_finished writes old new course _ at is = refl
 
 -- whose faults the lines ended with are those that the program ends with
-pub lines_cause : (end : LinesEnd) (differs : Bool) (source source' sink sink' : ℕ) → lines_ends.EndCause end (lines_ends.counted source sink 0) (lines_ends.counted source' sink' 0)
+pub lines_cause : (end : LinesEnd) (differs : Bool) (source source' sink sink' : ℕ) → lines_ends.LinesEndCause end (lines_ends.fault_counts source sink 0) (lines_ends.fault_counts source' sink' 0)
     → EndCause (ending_of_lines end differs) (around source sink 0) (around source' sink' 0)
 lines_cause lines.Finished false source source' sink sink' same = (ap (λ (f : Faults). f.source) same, ap (λ (f : Faults). f.sink) same)
 lines_cause lines.Finished true source source' sink sink' same = (ap (λ (f : Faults). f.source) same, ap (λ (f : Faults). f.sink) same)
@@ -36,18 +36,18 @@ lines_cause lines.WriteFault differs source source' sink sink' cause = (cause.0,
 lines_cause lines.Failed differs source source' sink sink' cause = (cause.0, inl cause.1, cause.2)
 
 module _ {T : Type 0} {does : Taker T} {reads : Type 0} {first : T} (writes : Type 0) (old : Outside) (source : SourceState) (now later : SinkState)
-    (same : writes → later.written ≡ now.written) (course : Course does reads first old.source.left source.left) where
+    (same : writes → later.written ≡ now.written) (course : LinesCourse does reads first old.source.left source.left) where
   -- what holds of what was written holds after a flush
-  pub still_finished : EndsAt writes old (outside source now) course lines.Finished → EndsAt writes old (outside source later) course lines.Finished
+  pub still_finished : LinesEndAt writes old (outside source now) course lines.Finished → LinesEndAt writes old (outside source later) course lines.Finished
   still_finished at = (at.0, λ told. same told ∙ at.1 told)
 
-  pub still_bad : EndsAt writes old (outside source now) course lines.BadLine → EndsAt writes old (outside source later) course lines.BadLine
+  pub still_bad : LinesEndAt writes old (outside source now) course lines.BadLine → LinesEndAt writes old (outside source later) course lines.BadLine
   still_bad at = (at.0, λ told. same told ∙ at.1 told)
 
-  pub still_long : EndsAt writes old (outside source now) course lines.InputTooLong → EndsAt writes old (outside source later) course lines.InputTooLong
+  pub still_long : LinesEndAt writes old (outside source now) course lines.InputTooLong → LinesEndAt writes old (outside source later) course lines.InputTooLong
   still_long at = (at.0, λ told. same told ∙ at.1 told)
 
-  pub still_unread : EndsAt writes old (outside source now) course lines.ReadFault → EndsAt writes old (outside source later) course lines.ReadFault
+  pub still_unread : LinesEndAt writes old (outside source now) course lines.ReadFault → LinesEndAt writes old (outside source later) course lines.ReadFault
   still_unread at = (at.0, λ told. same told ∙ at.1 told)
 
   pub still_cut : later.flushes ≡ old.sink.flushes → IsCutOff writes old (outside source now) course → IsCutOff writes old (outside source later) course
@@ -69,7 +69,7 @@ module _ {reads : Type 0} (writes : Type 0) (old : Outside) (source : SourceStat
   flushed_at ending result at ends (inl done) = rw done.0 (ends at)
   flushed_at ending result at ends (inr refused) = rw refused.0 (inr (ending, at, refused.1))
 
-  pub desk_ends : (end : LinesEnd) (differs : Bool) (result : Ending) → EndsAt writes old before course end → (end ≡ lines.Finished → course.last.differs ≡ differs)
+  pub desk_ends : (end : LinesEnd) (differs : Bool) (result : Ending) → LinesEndAt writes old before course end → (end ≡ lines.Finished → course.last.differs ≡ differs)
       → AfterFlush writes (ending_of_lines end differs) old.sink later result → DeskEndsAt writes old after course result
   desk_ends lines.Finished false result at is flushed =
       flushed_at Finished result (is refl, still_finished writes old source now later same course at) (λ it. it) flushed

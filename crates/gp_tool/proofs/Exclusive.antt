@@ -8,10 +8,10 @@ use Rattle.policy_machine.specs.State.{State}
 use Rattle.line_runs.proofs.ComeFirst.{room_further, room_left, room_whole}
 use Rattle.gp_tool.proofs.One.{line_once, plays_form}
 use Rattle.gp_tool.proofs.RunsMore.{runs_once}
-use Rattle.gp_tool.specs.Effects.{Effect, Place}
+use Rattle.gp_tool.specs.Effects.{LineEffect, LinePlace}
 use Rattle.gp_tool.specs.Ends.{Course, IsBad, with_bad_line}
 use Rattle.line_runs.specs.Outside.{Outside}
-use Rattle.line_runs.specs.Taken.{ComeFirst, IsRead, IsShortCut}
+use Rattle.line_runs.specs.Taken.{AreAllTaken, ComeFirst, IsShortCut}
 use Rattle.gp_tool.specs.Going.{AreShort}
 use Rattle.gp_tool.specs.Laws.{EndsTold, IsFaultless}
 use Rattle.gp_tool.specs.RunsLines.{HasForm, Memory, PlaysLine, RunsLines, start}
@@ -71,25 +71,25 @@ module _ (verb : Verb) where
   bad_not_over memory room ahead (text, inr (inr cut, long)) over = cut_not_over room ahead text cut over
 
   -- where no line can be given
-  record HaltsBehind (number room : ℕ) (input : List ℕ) (at : Place (Memory verb)) (given : List (List ℕ)) (effect : Effect) (last : Place (Memory verb)) (ahead : List ℕ) : Type 0 where
+  record HaltsAfter (number room : ℕ) (input : List ℕ) (at : LinePlace (Memory verb)) (given : List (List ℕ)) (effect : LineEffect) (last : LinePlace (Memory verb)) (ahead : List ℕ) : Type 0 where
     pub come : ComeFirst room input given ahead
     pub fits : AreShort given
     pub runs : RunsLines verb number given at effect last
     pub halts : Halts verb last.memory (room_left room input ahead) ahead
 
-  halts_here : (number room : ℕ) (input : List ℕ) (at : Place (Memory verb)) (effect : Effect) (last : Place (Memory verb)) (ahead : List ℕ)
-      → HaltsBehind number room input at [] effect last ahead → Halts verb at.memory room input
+  halts_here : (number room : ℕ) (input : List ℕ) (at : LinePlace (Memory verb)) (effect : LineEffect) (last : LinePlace (Memory verb)) (ahead : List ℕ)
+      → HaltsAfter number room input at [] effect last ahead → Halts verb at.memory room input
   halts_here number room input at effect last ahead behind =
       let runs = behind.runs in
       let come : ahead ≡ input = behind.come in
       let here : Halts verb last.memory room ahead = subst (λ (n : ℕ). Halts verb last.memory n ahead) (room_whole room input ahead come) behind.halts in
       let there : Halts verb last.memory room input = subst (λ (bytes : List ℕ). Halts verb last.memory room bytes) come here in
-      subst (λ (place : Place (Memory verb)). Halts verb place.memory room input) runs.1 there
+      subst (λ (place : LinePlace (Memory verb)). Halts verb place.memory room input) runs.1 there
 
   -- it is after the first line too
-  halts_after : (number room : ℕ) (input : List ℕ) (at : Place (Memory verb)) (line : List ℕ) (given : List (List ℕ)) (effect : Effect) (last : Place (Memory verb)) (ahead : List ℕ)
-      → (behind : HaltsBehind number room input at (line ∷ given) effect last ahead)
-      → HaltsBehind (number + 1) (room_left room input behind.come.0) behind.come.0 behind.runs.1 given behind.runs.2 last ahead
+  halts_after : (number room : ℕ) (input : List ℕ) (at : LinePlace (Memory verb)) (line : List ℕ) (given : List (List ℕ)) (effect : LineEffect) (last : LinePlace (Memory verb)) (ahead : List ℕ)
+      → (behind : HaltsAfter number room input at (line ∷ given) effect last ahead)
+      → HaltsAfter (number + 1) (room_left room input behind.come.0) behind.come.0 behind.runs.1 given behind.runs.2 last ahead
   halts_after number room input at line given effect last ahead behind =
       let come = behind.come in
       let fits = behind.fits in
@@ -101,8 +101,8 @@ module _ (verb : Verb) where
         halts = subst (λ (n : ℕ). Halts verb last.memory n ahead) (room_further room input line come.0 ahead given come.1 come.2) behind.halts;
       }
 
-  not_here : (number room : ℕ) (input : List ℕ) (at : Place (Memory verb)) (line : List ℕ) (given : List (List ℕ)) (effect : Effect) (last : Place (Memory verb)) (ahead : List ℕ)
-      → HaltsBehind number room input at (line ∷ given) effect last ahead → Halts verb at.memory room input → ⊥
+  not_here : (number room : ℕ) (input : List ℕ) (at : LinePlace (Memory verb)) (line : List ℕ) (given : List (List ℕ)) (effect : LineEffect) (last : LinePlace (Memory verb)) (ahead : List ℕ)
+      → HaltsAfter number room input at (line ∷ given) effect last ahead → Halts verb at.memory room input → ⊥
   not_here number room input at line given effect last ahead behind halts =
       let come = behind.come in
       let fits = behind.fits in
@@ -110,8 +110,8 @@ module _ (verb : Verb) where
       not_good at.memory room input line come.0 halts come.1 (plays_form verb number line at runs.1 runs.0 runs.3) fits.0
 
   -- there is one such place
-  halts_once : (number room : ℕ) (input : List ℕ) (at : Place (Memory verb)) (given others : List (List ℕ)) (effect other : Effect) (last another : Place (Memory verb)) (ahead beyond : List ℕ)
-      → HaltsBehind number room input at given effect last ahead → HaltsBehind number room input at others other another beyond → (given ≡ others) × (ahead ≡ beyond)
+  halts_once : (number room : ℕ) (input : List ℕ) (at : LinePlace (Memory verb)) (given others : List (List ℕ)) (effect other : LineEffect) (last another : LinePlace (Memory verb)) (ahead beyond : List ℕ)
+      → HaltsAfter number room input at given effect last ahead → HaltsAfter number room input at others other another beyond → (given ≡ others) × (ahead ≡ beyond)
   halts_once number room input at [] [] effect other last another ahead beyond halts again = (refl, halts.come ∙ sym again.come)
   halts_once number room input at [] (line ∷ others) effect other last another ahead beyond halts again =
       absurd (not_here number room input at line others other another beyond again (halts_here number room input at effect last ahead halts))
@@ -125,9 +125,9 @@ module _ (verb : Verb) where
       let same = one_line room input line l come.0 come'.0 come.1 come'.1 in
       let played = line_once verb number l at runs.1 runs'.1 runs.0 runs'.0 (subst (λ (t : List ℕ). PlaysLine verb number t at runs.0 runs.1) same.0 runs.3) runs'.3 in
       let further = halts_after number room input at l others other another beyond again in
-      let there : HaltsBehind (number + 1) (room_left room input come.0) come.0 runs.1 others runs'.2 another beyond
-      = subst (λ (bytes : List ℕ). HaltsBehind (number + 1) (room_left room input bytes) bytes runs.1 others runs'.2 another beyond) (sym same.1)
-      (subst (λ (place : Place (Memory verb)). HaltsBehind (number + 1) (room_left room input come'.0) come'.0 place others runs'.2 another beyond) (sym played.1) further) in
+      let there : HaltsAfter (number + 1) (room_left room input come.0) come.0 runs.1 others runs'.2 another beyond
+      = subst (λ (bytes : List ℕ). HaltsAfter (number + 1) (room_left room input bytes) bytes runs.1 others runs'.2 another beyond) (sym same.1)
+      (subst (λ (place : LinePlace (Memory verb)). HaltsAfter (number + 1) (room_left room input come'.0) come'.0 place others runs'.2 another beyond) (sym played.1) further) in
       let more = halts_once (number + 1) (room_left room input come.0) come.0 runs.1 given others runs.2 runs'.2 last another ahead beyond
       (halts_after number room input at line given effect last ahead halts) there in
       (ap (λ t. t ∷ given) same.0 ∙ ap (λ ls. l ∷ ls) more.0, more.1)
@@ -172,19 +172,19 @@ module _ (verb : Verb) where
   own_once _ another memory room ahead differs own again = absurd own
 
   -- the texts that are written
-  abbrev texts_at : Ending → List (List ℕ) → Effect → List (List ℕ)
+  abbrev texts_at : Ending → List (List ℕ) → LineEffect → List (List ℕ)
   texts_at BadLine given effect = with_bad_line given effect
   texts_at _ given effect = effect.texts
 
-  is_over : (input : List ℕ) (given : List (List ℕ)) (ahead : List ℕ) → IsRead input given ahead → IsOver (room_left INPUT_LIMIT input ahead) ahead
+  is_over : (input : List ℕ) (given : List (List ℕ)) (ahead : List ℕ) → AreAllTaken input given ahead → IsOver (room_left INPUT_LIMIT input ahead) ahead
   is_over input given ahead read = (let short = read.2 in (read.1, omega (arith, short)))
 
   module _ (first : State) (old : Outside) where
     -- the course of a run, and what its ending says
     record Ended (ending : Ending) (new : Outside) : Type 0 where
       pub given : List (List ℕ)
-      pub effect : Effect
-      pub last : Place (Memory verb)
+      pub effect : LineEffect
+      pub last : LinePlace (Memory verb)
       pub ahead : List ℕ
       pub come : ComeFirst INPUT_LIMIT old.source.left given ahead
       pub fits : AreShort given
@@ -221,7 +221,7 @@ module _ (verb : Verb) where
     ended _ new clean ends = absurd clean
 
     behind : (ending : Ending) (new : Outside) → (ends : Ended ending new)
-        → HaltsBehind 1 INPUT_LIMIT old.source.left (start verb first) ends.given ends.effect ends.last ends.ahead
+        → HaltsAfter 1 INPUT_LIMIT old.source.left (start verb first) ends.given ends.effect ends.last ends.ahead
     behind ending new ends = record {
       come = ends.come;
       fits = ends.fits;
@@ -237,8 +237,8 @@ module _ (verb : Verb) where
         (subst (λ (ls : List (List ℕ)). RunsLines verb 1 ls (start verb first) ends.effect ends.last) there.0 ends.runs) again.runs in
         let own : Own ending again.last.memory (room_left INPUT_LIMIT old.source.left again.ahead) again.ahead again.effect.differs
         = subst (λ (bytes : List ℕ). Own ending again.last.memory (room_left INPUT_LIMIT old.source.left bytes) bytes again.effect.differs) there.1
-        (subst (λ (e : Effect). Own ending again.last.memory (room_left INPUT_LIMIT old.source.left ends.ahead) ends.ahead e.differs) played.0
-        (subst (λ (place : Place (Memory verb)). Own ending place.memory (room_left INPUT_LIMIT old.source.left ends.ahead) ends.ahead ends.effect.differs) played.1 ends.own)) in
+        (subst (λ (e : LineEffect). Own ending again.last.memory (room_left INPUT_LIMIT old.source.left ends.ahead) ends.ahead e.differs) played.0
+        (subst (λ (place : LinePlace (Memory verb)). Own ending place.memory (room_left INPUT_LIMIT old.source.left ends.ahead) ends.ahead ends.effect.differs) played.1 ends.own)) in
         let same = own_once ending another again.last.memory (room_left INPUT_LIMIT old.source.left again.ahead) again.ahead again.effect.differs own again.own in (
           same,
           ends.written ∙ (λ i. old.sink.written ++ concat (texts_at (same i) (there.0 i) (played.0 i))) ∙ sym again.written,

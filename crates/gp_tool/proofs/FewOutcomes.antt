@@ -9,7 +9,7 @@ use Rattle.script_tool.specs.Host.{Host}
 use Rattle.script_tool.specs.Talk.{Answered, Ends, Event, Reset, Sends}
 use Rattle.script_tool.specs.Workload.{AreLines}
 use Rattle.io_edge.specs.declared.line.TheConstants.{LINE_LIMIT}
-use Rattle.gp_tool.specs.Effects.{Effect, Place}
+use Rattle.gp_tool.specs.Effects.{LineEffect, LinePlace}
 use Rattle.gp_tool.specs.Form.{SpellsInputs}
 use Rattle.gp_tool.specs.Going.{AreShort}
 use Rattle.gp_tool.specs.Replay.{Compares}
@@ -25,13 +25,13 @@ one_each state (Reset ∷ events) outcomes last answers = one_each (powered_on s
 one_each state (Answered command reply ∷ events) [] last answers = absurd answers
 one_each state (Answered command reply ∷ events) (outcome ∷ outcomes) last answers = (let rest = one_each outcome.state events outcomes last answers.2 in omega (arith, rest))
 
-script_few : (line : List ℕ) (at next : Place Host) (effect : Effect) → PlaysScript line at effect next → length effect.outcomes ≤ 60 * length line
+script_few : (line : List ℕ) (at next : LinePlace Host) (effect : LineEffect) → PlaysScript line at effect next → length effect.outcomes ≤ 60 * length line
 script_few line at next effect (said, says, events, printed, after, goes, answers, texts, differs, memory) =
     let count = one_each at.state events effect.outcomes next.state answers in
     let few = few_commands line said at.memory events (Ends printed after) says goes in
     omega (arith, count, few)
 
-pub begun_few : (line : List ℕ) (at : Place Host) (begun : List Outcome) (mid : State) (next : Outcome) → BreaksScript line at begun mid next → length begun ≤ 60 * length line
+pub begun_few : (line : List ℕ) (at : LinePlace Host) (begun : List Outcome) (mid : State) (next : Outcome) → BreaksScript line at begun mid next → length begun ≤ 60 * length line
 begun_few line at begun mid next (said, says, events, command, rest, goes, answers, step) =
     let count = one_each at.state events begun mid answers in
     let few = few_commands line said at.memory events (Sends command rest) says goes in
@@ -57,11 +57,11 @@ card_few line state inputs outcomes last spells runs =
     omega (arith, given, few)
 
 -- a line that wants a reply gives the card no command
-compared_few : (number : ℕ) (want got : List ℕ) (effect : Effect) → Compares number want got effect → length effect.outcomes ≡ 0
-compared_few number want got effect (inl same) = ap (λ (e : Effect). length e.outcomes) same.1
-compared_few number want got effect (inr differs) = ap (λ (e : Effect). length e.outcomes) differs.1
+compared_few : (number : ℕ) (want got : List ℕ) (effect : LineEffect) → Compares number want got effect → length effect.outcomes ≡ 0
+compared_few number want got effect (inl same) = ap (λ (e : LineEffect). length e.outcomes) same.1
+compared_few number want got effect (inr differs) = ap (λ (e : LineEffect). length e.outcomes) differs.1
 
-pub line_few : (verb : Verb) (number : ℕ) (line : List ℕ) (at next : Place (Memory verb)) (effect : Effect) → PlaysLine verb number line at effect next
+pub line_few : (verb : Verb) (number : ℕ) (line : List ℕ) (at next : LinePlace (Memory verb)) (effect : LineEffect) → PlaysLine verb number line at effect next
     → length effect.outcomes ≤ 60 * length line + 1
 line_few run number line at next effect plays = card_few line at.state plays.0 effect.outcomes next.state plays.1 plays.2
 line_few why number line at next effect plays = card_few line at.state plays.0 effect.outcomes next.state plays.1 plays.2
@@ -69,19 +69,19 @@ line_few replay number line at next effect (inl keeps) = card_few line at.state 
 line_few replay number line at next effect (inr (want, got, meets, compares, is)) = (let none = compared_few number want got effect compares in omega (arith, none))
 line_few play number line at next effect plays = (let few = script_few line at next effect plays in omega (arith, few))
 
-pub breaks_few : (verb : Verb) (line : List ℕ) (at : Place (Memory verb)) (begun : List Outcome) (mid : State) (next : Outcome) → FailsLine verb line at begun mid next
+pub breaks_few : (verb : Verb) (line : List ℕ) (at : LinePlace (Memory verb)) (begun : List Outcome) (mid : State) (next : Outcome) → FailsLine verb line at begun mid next
     → length begun ≤ 60 * length line + 1
 breaks_few play line at begun mid next fails = (let few = begun_few line at begun mid next fails in omega (arith, few))
 breaks_few _ line at begun mid next fails = (let none = ap (λ (os : List Outcome). length os) fails.0 in omega (arith, none))
 
 -- lines that are not too long
-pub runs_few : (verb : Verb) (number : ℕ) (lines : List (List ℕ)) (at last : Place (Memory verb)) (effect : Effect) → AreShort lines → RunsLines verb number lines at effect last
+pub runs_few : (verb : Verb) (number : ℕ) (lines : List (List ℕ)) (at last : LinePlace (Memory verb)) (effect : LineEffect) → AreShort lines → RunsLines verb number lines at effect last
     → length effect.outcomes ≤ 31_321 * length lines
-runs_few verb number [] at last effect short none = (let is = ap (λ (e : Effect). length e.outcomes) none.0 in omega (arith, is))
+runs_few verb number [] at last effect short none = (let is = ap (λ (e : LineEffect). length e.outcomes) none.0 in omega (arith, is))
 runs_few verb number (line ∷ lines) at last effect short some =
     let one = line_few verb number line at some.1 some.0 some.3 in
     let more = runs_few verb (number + 1) lines some.1 last some.2 short.1 some.4 in
-    let all = ap (λ (e : Effect). length e.outcomes) some.5 ∙ length-append some.0.outcomes some.2.outcomes in
+    let all = ap (λ (e : LineEffect). length e.outcomes) some.5 ∙ length-append some.0.outcomes some.2.outcomes in
     let fits : length line ≤ LINE_LIMIT = short.0 in
     omega (arith, one, more, all, fits)
 

@@ -7,7 +7,7 @@ use Rattle.card_check.proofs.Counting.{length_of_pages}
 use Rattle.card_check.specs.IsCard.{HasPages, IsInLoadPages, pages_named}
 use Rattle.card_core.specs.Kept.{AreCards}
 use Rattle.card_types.proofs.Shows.{used_from_held}
-use Rattle.card_types.specs.Represents.{domain_aid, file_of, used, held}
+use Rattle.card_types.specs.Represents.{domain_aid, file_of, things_in, thing_in}
 use Rattle.card_types.specs.declared.limits.TheConstants.{FILE_LIMIT}
 use Rattle.card_types.specs.declared.tables.Entry.{Entry}
 use Rattle.card_types.specs.declared.tables.LoadFile.{LoadFile}
@@ -35,13 +35,13 @@ module _ (page : ℕ → List ℕ) (whole : HasPages page) (entries : List (Opti
 
 -- the line that the code makes of the file in a slot
 pub line_of_file : (page : ℕ → List ℕ) → HasPages page → (tables seen : Tables) → seen ≡ tables → AreCards seen
-    → (slot : ℕ) (file : LoadFile) → held tables.files.items slot ≡ Some file → length file.pages ≡ 128
-    → (digest names line : List ℕ) → IfSome (held tables.files.items slot) (λ f. digest ≡ sha256 (file_of page tables.entries.items f).bytes)
+    → (slot : ℕ) (file : LoadFile) → thing_in tables.files.items slot ≡ Some file → length file.pages ≡ 128
+    → (digest names line : List ℕ) → IfSome (thing_in tables.files.items slot) (λ f. digest ≡ sha256 (file_of page tables.entries.items f).bytes)
     → names ≡ file_names file.aid (domain_aid seen.entries.items file.domain) → line ≡ names ++ file_content file.len digest ++ 10 ∷ []
     → line ≡ file_line (file_of page tables.entries.items file)
 line_of_file page whole tables seen same cards slot file at array digest names line is named spelled =
     let card = subst AreCards same cards page whole in
-    let size = (All-contains IsInLoadPages (used tables.files.items) file card.of.files (used_from_held tables.files.items slot file at)).size in
+    let size = (All-contains IsInLoadPages (things_in tables.files.items) file card.of.files (used_from_held tables.files.items slot file at)).size in
     let digested : digest ≡ sha256 (file_of page tables.entries.items file).bytes = rw at at is in
     spelled ∙ ap (λ front. front ++ file_content file.len digest ++ 10 ∷ []) (named ∙ ap (λ (t : Tables). file_names file.aid (domain_aid t.entries.items file.domain)) same)
     ∙ file_line_is page whole tables.entries.items file size array digest digested

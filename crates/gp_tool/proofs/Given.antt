@@ -10,18 +10,18 @@ use Rattle.gp_tool.proofs.Counting.{few_none}
 use Rattle.gp_tool.proofs.Moments.{nothing_done}
 use Rattle.gp_tool.specs.Counted.{CountsOn}
 use Rattle.gp_tool.specs.Device.{LeavesOneOf, LeftOneOf}
-use Rattle.gp_tool.specs.Effects.{Effect, Place, nothing}
+use Rattle.gp_tool.specs.Effects.{LineEffect, LinePlace, nothing}
 use Rattle.gp_tool.specs.Form.{FailsCommand}
 use Rattle.gp_tool.specs.Give.{Commands}
 use Rattle.gp_tool.specs.Serve.{BreaksLine, RunsLine, Standing, StandsAt}
 
 -- what a command's effect is: its outcome, and the texts
-abbrev pub one_outcome : Outcome → List (List ℕ) → Effect
+abbrev pub one_outcome : Outcome → List (List ℕ) → LineEffect
 one_outcome outcome texts = record { outcomes = outcome ∷ []; texts = texts; differs = false }
 
-module _ {F H M : Type 0} (Means : H → M → Type 0) (device : Flash F) (old new : Standing F H) (place : Place M) where
+module _ {F H M : Type 0} (Means : H → M → Type 0) (device : Flash F) (old new : Standing F H) (place : LinePlace M) where
   -- no command was given
-  pub silent_runs : (Plays : Place M → Effect → Place M → Type 0) (next : Place M)
+  pub silent_runs : (Plays : LinePlace M → LineEffect → LinePlace M → Type 0) (next : LinePlace M)
       → ((f : F) (c : List Page) → device.tells → device.left_since f (device.moment f) c → device.may_leave f c)
       → StandsAt Means device old place → StandsAt Means device new next → new.card.flash ≡ old.card.flash → new.done ≡ old.done → new.differs ≡ old.differs
       → Plays place nothing next → (played : RunsLine Means Plays device old new place) × (played.effect.texts ≡ [])
@@ -40,7 +40,7 @@ module _ {F H M : Type 0} (Means : H → M → Type 0) (device : Flash F) (old n
 
   module _ (line : List ℕ) (outcome : Outcome) (commands : Commands line device old.card.flash new.card.flash place.state outcome) where
     -- a command was given, and answered
-    pub command_runs : (Plays : Place M → Effect → Place M → Type 0) (next : Place M) (texts : List (List ℕ))
+    pub command_runs : (Plays : LinePlace M → LineEffect → LinePlace M → Type 0) (next : LinePlace M) (texts : List (List ℕ))
         → StandsAt Means device new next → CountsOn old.done new.done 1 → new.differs ≡ old.differs → Plays place (one_outcome outcome texts) next
         → (played : RunsLine Means Plays device old new place) × (played.effect.texts ≡ texts)
     command_runs Plays next texts stands done differs plays = (
@@ -69,7 +69,7 @@ module _ {F H M : Type 0} (Means : H → M → Type 0) (device : Flash F) (old n
     }
 
 -- a line whose texts are written
-module _ {F H M : Type 0} {Means : H → M → Type 0} {Plays : Place M → Effect → Place M → Type 0} {device : Flash F} {old new : Standing F H} {place : Place M} (writes : Type 0) (text text' : List ℕ) where
+module _ {F H M : Type 0} {Means : H → M → Type 0} {Plays : LinePlace M → LineEffect → LinePlace M → Type 0} {device : Flash F} {old new : Standing F H} {place : LinePlace M} (writes : Type 0) (text text' : List ℕ) where
   -- it has none
   pub then_nothing : (played : RunsLine Means Plays device old new place) × (played.effect.texts ≡ []) → (writes → text' ≡ text)
       → (played : RunsLine Means Plays device old new place) × (writes → text' ≡ text ++ concat played.effect.texts)

@@ -7,9 +7,9 @@ use Rattle.policy_machine.specs.Run.{Input, Run}
 use Rattle.policy_machine.specs.State.{State, powered_on}
 use Rattle.policy_machine.specs.Step.{Outcome}
 use Rattle.script_tool.specs.Talk.{Answered, Event, Reset}
-use Rattle.gp_tool.specs.Effects.{Effect, Place}
+use Rattle.gp_tool.specs.Effects.{LineEffect, LinePlace}
 use Rattle.gp_tool.specs.LinesApart.{LinesKeepTrees}
-use Rattle.gp_tool.specs.Replay.{Compares, Kept}
+use Rattle.gp_tool.specs.Replay.{Compares, LastReply}
 use Rattle.gp_tool.specs.RunsLines.{Memory, PlaysLine, RunsLines}
 use Rattle.gp_tool.specs.Script.{AnswersEvents}
 use Rattle.gp_tool.specs.declared.verb.Verb.{Verb}
@@ -43,22 +43,22 @@ events_run first last (Answered command reply ∷ events) (outcome ∷ outcomes)
     (input.Command command ∷ rest.0, (answers.0, rest.1))
 
 -- a comparison gives the card nothing
-nothing_done : (number : ℕ) (want got : List ℕ) (effect : Effect) → Compares number want got effect → effect.outcomes ≡ []
-nothing_done number want got effect (inl same) = ap (λ (e : Effect). e.outcomes) same.1
-nothing_done number want got effect (inr differs) = ap (λ (e : Effect). e.outcomes) differs.1
+nothing_done : (number : ℕ) (want got : List ℕ) (effect : LineEffect) → Compares number want got effect → effect.outcomes ≡ []
+nothing_done number want got effect (inl same) = ap (λ (e : LineEffect). e.outcomes) same.1
+nothing_done number want got effect (inr differs) = ap (λ (e : LineEffect). e.outcomes) differs.1
 
-line_runs : (verb : Verb) (number : ℕ) (line : List ℕ) (at next : Place (Memory verb)) (effect : Effect) → PlaysLine verb number line at effect next
+line_runs : (verb : Verb) (number : ℕ) (line : List ℕ) (at next : LinePlace (Memory verb)) (effect : LineEffect) → PlaysLine verb number line at effect next
     → IsRun at.state effect.outcomes next.state
 line_runs run number line at next effect plays = (plays.0, plays.2)
 line_runs why number line at next effect plays = (plays.0, plays.2)
 line_runs replay number line at next effect (inl keeps) = (keeps.0, keeps.2)
 line_runs replay number line at next effect (inr compared) =
-    ([], (nothing_done number compared.0 compared.1 effect compared.3, ap (λ (p : Place Kept). p.state) compared.4))
+    ([], (nothing_done number compared.0 compared.1 effect compared.3, ap (λ (p : LinePlace LastReply). p.state) compared.4))
 line_runs play number line at next effect plays = events_run at.state next.state plays.2 effect.outcomes plays.6
 
-pub lines_run : (verb : Verb) (number : ℕ) (lines : List (List ℕ)) (at last : Place (Memory verb)) (effect : Effect) → RunsLines verb number lines at effect last
+pub lines_run : (verb : Verb) (number : ℕ) (lines : List (List ℕ)) (at last : LinePlace (Memory verb)) (effect : LineEffect) → RunsLines verb number lines at effect last
     → IsRun at.state effect.outcomes last.state
-lines_run verb number [] at last effect is = ([], (ap (λ (e : Effect). e.outcomes) is.0, ap (λ (p : Place (Memory verb)). p.state) is.1))
+lines_run verb number [] at last effect is = ([], (ap (λ (e : LineEffect). e.outcomes) is.0, ap (λ (p : LinePlace (Memory verb)). p.state) is.1))
 lines_run verb number (line ∷ lines) at last effect is =
     let one = is.0 in
     let next = is.1 in
@@ -66,7 +66,7 @@ lines_run verb number (line ∷ lines) at last effect is =
     let here = line_runs verb number line at next one is.3 in
     let rest = lines_run verb (number + 1) lines next last more is.4 in (
       here.0 ++ rest.0,
-      subst (λ (e : Effect). Run at.state (here.0 ++ rest.0) e.outcomes last.state) (sym is.5)
+      subst (λ (e : LineEffect). Run at.state (here.0 ++ rest.0) e.outcomes last.state) (sym is.5)
           (runs_on at.state next.state last.state here.0 rest.0 one.outcomes more.outcomes here.1 rest.1),
     )
 

@@ -20,7 +20,7 @@ use Rattle.gp_tool.proofs.FewOutcomes.{begun_few, front_short, runs_few}
 use Rattle.gp_tool.proofs.Moments.{has_failed, has_run}
 use Rattle.gp_tool.proofs.RunsMore.{leaves_further, runs_more}
 use Rattle.gp_tool.specs.Device.{LeavesOneOf, registries}
-use Rattle.gp_tool.specs.Effects.{joined, nothing}
+use Rattle.gp_tool.specs.Effects.{both_effects, nothing}
 use Rattle.gp_tool.specs.Mill.{PlaysSome, with_text, with_texts}
 use Rattle.gp_tool.specs.Milling.{Milled, Milling, MillsLine}
 use Rattle.gp_tool.specs.RunsLines.{RunsLines, start}
@@ -87,7 +87,7 @@ module _ {F : Type 0} (device : Flash F) (work : Workload) (first : State) (from
         let stands = run.stands in
         record {
           given = milling.given ++ line ∷ [];
-          effect = joined milling.effect run.effect;
+          effect = both_effects milling.effect run.effect;
           place = run.next;
           all = append_assoc milling.given (line ∷ []) left' ∙ ap (λ l. milling.given ++ l) (sym is) ∙ milling.all;
           plays = runs_more Play 1 (1 + length milling.given) milling.given line (start Play first) milling.place run.next milling.effect run.effect refl milling.plays run.plays;

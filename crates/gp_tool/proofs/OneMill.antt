@@ -8,14 +8,14 @@ use Rattle.hex.specs.Hex.{encode_lower}
 use Rattle.io_edge.specs.declared.sink.Sink.{Ghosts as Sink}
 use Rattle.policy_machine.proofs.OneSet.{counter_one}
 use Rattle.policy_machine.specs.State.{State, powered_on}
-use Rattle.rec_store.specs.Reopens.{Keeps}
+use Rattle.rec_store.specs.Reopens.{KeepsRegistry}
 use Rattle.scp03_card.specs.Offer.{counter_bytes}
 use Rattle.script_tool.specs.Host.{Host}
 use Rattle.script_tool.specs.Mill.{workload}
 use Rattle.line_runs.specs.Exit.{exit_status}
 use Rattle.gp_tool.proofs.RunsMore.{runs_once}
 use Rattle.gp_tool.specs.Around.{Around}
-use Rattle.gp_tool.specs.Effects.{Effect, Place}
+use Rattle.gp_tool.specs.Effects.{LineEffect, LinePlace}
 use Rattle.gp_tool.specs.Laws.{OneMill}
 use Rattle.gp_tool.specs.Mill.{IsCounterText, MillEnds, PlaysAll, summary, tally_of}
 use Rattle.gp_tool.specs.RunsLines.{start}
@@ -48,7 +48,7 @@ module _ {F : Type 0} (device : Flash F) (work : Workload) (first : State) (made
 
   same_counter : plays.counter ≡ again.counter
   same_counter = counter_once plays.last.state.registry plays.counter again.counter plays.counted
-      (subst (λ (last : Place Host). IsCounterText last.state.registry again.counter) (sym same_last) again.counted)
+      (subst (λ (last : LinePlace Host). IsCounterText last.state.registry again.counter) (sym same_last) again.counted)
 
   same_text : text ≡ text'
   same_text = plays.text_is ∙ (λ i. summary work (tally_of (same_effect i).texts) (same_counter i)) ∙ sym again.text_is
@@ -57,10 +57,10 @@ module _ {F : Type 0} (device : Flash F) (work : Workload) (first : State) (made
   same_count =
       let run = plays.run in
       let run' = again.run in
-      run.done ∙ ap (λ (e : Effect). length e.outcomes) same_effect ∙ sym run'.done
+      run.done ∙ ap (λ (e : LineEffect). length e.outcomes) same_effect ∙ sym run'.done
 
   pub same_mill : (text ≡ text') × (plays.last.state.registry ≡ again.last.state.registry) × (count ≡ count')
-  same_mill = (same_text, ap (λ (last : Place Host). last.state.registry) same_last, same_count)
+  same_mill = (same_text, ap (λ (last : LinePlace Host). last.state.registry) same_last, same_count)
 
 module _ {K F : Type 0} (sink : Sink K) (device : Flash F) (work : Workload) (count : ℕ) (old new : Around (Unit {0}) K F) where
   -- all was played and written
@@ -89,7 +89,7 @@ one_mill sink device work count count' old new before after writes told card oth
       record { written = one.2 writes; keeps = run.keeps told },
       record {
         written = again.2 writes ∙ ap (λ t. (sink.state before.sink).written ++ t) (sym same.0);
-        keeps = subst (λ (registry : Registry). Keeps device after.flash registry) (sym same.1) (run'.keeps told);
+        keeps = subst (λ (registry : Registry). KeepsRegistry device after.flash registry) (sym same.1) (run'.keeps told);
       },
       same.2,
     )

@@ -3,7 +3,7 @@ use Rattle.std.proofs.Common.{◌≡◌, ◌⊎◌, inl, inr, ℕ, ◌≤◌, Li
 use Rattle.std.specs.Prelude.{◌==◌, String, cond, map, string_bytes}
 use Rattle.std.specs.Str.Parse.{digits_value}
 use Rattle.std.specs.declared.alloc.Global.{Global}
-use Rattle.gp_tool.specs.Words.{AreOf, word_of}
+use Rattle.gp_tool.specs.Words.{AreOf, task_word}
 use Rattle.gp_tool.specs.declared.task.Task.{Task}
 use Rattle.gp_tool.specs.declared.task.Task.TheVariants.{Cap, Desk, Format, Mill, Serve, Show}
 use Rattle.gp_tool.specs.declared.verb.Verb.TheVariants.{Run, Why, Replay, Play}
@@ -27,7 +27,7 @@ abbrev IsPlain : Task → Type 0
 IsPlain (Mill work) = ⊥
 IsPlain task = Unit {0}
 
-is_by_word : (task : Task) → IsPlain task → by_word (word_of task) ≡ task
+is_by_word : (task : Task) → IsPlain task → by_word (task_word task) ≡ task
 is_by_word Format plain = refl
 is_by_word (Serve Run) plain = refl
 is_by_word (Serve Why) plain = refl
@@ -39,7 +39,7 @@ is_by_word (Show Rights) plain = refl
 is_by_word Desk plain = refl
 is_by_word Cap plain = refl
 
-one_plain : (words : Words) (a b : Task) → IsPlain a → IsPlain b → map string_bytes words ≡ word_of a ∷ [] → map string_bytes words ≡ word_of b ∷ [] → a ≡ b
+one_plain : (words : Words) (a b : Task) → IsPlain a → IsPlain b → map string_bytes words ≡ task_word a ∷ [] → map string_bytes words ≡ task_word b ∷ [] → a ≡ b
 one_plain words a b plain plain' is is' =
     sym (is_by_word a plain) ∙ ap (λ (l : List (List ℕ)). by_word (get_or l 0 [])) (sym is ∙ is') ∙ is_by_word b plain'
 
@@ -57,7 +57,7 @@ one_mill words a b (seed, rounds, is, names) (seed', rounds', is', names') =
     one_workload a b (sym names.0.2 ∙ ap (digits_value 10) seeds ∙ names'.0.2) (sym names.2.2 ∙ ap (digits_value 10) ends ∙ names'.2.2)
 
 -- `mill` has more words than one
-more_words : (words : Words) (task : Task) (work : Workload) → map string_bytes words ≡ word_of task ∷ [] → AreOf (Mill work) words → ⊥
+more_words : (words : Words) (task : Task) (work : Workload) → map string_bytes words ≡ task_word task ∷ [] → AreOf (Mill work) words → ⊥
 more_words words task work is (seed, rounds, is', names) = (let long : 1 ≡ 3 = ap length (sym is ∙ is') in omega (arith, long))
 
 abbrev IsMill : Task → Type 0
@@ -71,7 +71,7 @@ kind (Show view) = inl tt
 kind Desk = inl tt
 kind Cap = inl tt
 
-plain_words : (words : Words) (task : Task) → IsPlain task → AreOf task words → map string_bytes words ≡ word_of task ∷ []
+plain_words : (words : Words) (task : Task) → IsPlain task → AreOf task words → map string_bytes words ≡ task_word task ∷ []
 plain_words words Format plain are = are
 plain_words words (Serve verb) plain are = are
 plain_words words (Mill work) plain are = absurd plain

@@ -11,8 +11,8 @@ part_of_longer text more n =
     (min n (length text), sym (take-append-le (min n (length text)) text more within ∙ take_min n text))
 
 -- a text, and a part of what stands after it
-pub part_behind : (text more : List ℕ) (n : ℕ) → text ++ take n more ≡ take (length text + n) (text ++ more)
-part_behind text more n = sym (take-append-add text more n)
+pub part_after : (text more : List ℕ) (n : ℕ) → text ++ take n more ≡ take (length text + n) (text ++ more)
+part_after text more n = sym (take-append-add text more n)
 
 -- the part of a text that was written after another text
 pub part_written : (old front text more mid new : List ℕ) → mid ≡ old ++ front → (n : ℕ) × (new ≡ mid ++ take n text)
@@ -21,7 +21,7 @@ part_written old front text more mid new before part =
     let longer = part_of_longer text more part.0 in (
       length front + longer.0,
       part.1 ∙ ap (λ m. m ++ take part.0 text) before ∙ append_assoc old front (take part.0 text)
-          ∙ ap (λ t. old ++ (front ++ t)) longer.1 ∙ ap (λ t. old ++ t) (part_behind front (text ++ more) longer.0),
+          ∙ ap (λ t. old ++ (front ++ t)) longer.1 ∙ ap (λ t. old ++ t) (part_after front (text ++ more) longer.0),
     )
 
 -- a part of the first of two texts is one of both
@@ -34,7 +34,7 @@ part_of_both old front back new part =
 pub part_of_second : (old front back mid new : List ℕ) → mid ≡ old ++ front → (n : ℕ) × (new ≡ mid ++ take n back) → (n : ℕ) × (new ≡ old ++ take n (front ++ back))
 part_of_second old front back mid new before part = (
   length front + part.0,
-  part.1 ∙ ap (λ m. m ++ take part.0 back) before ∙ append_assoc old front (take part.0 back) ∙ ap (λ text. old ++ text) (part_behind front back part.0),
+  part.1 ∙ ap (λ m. m ++ take part.0 back) before ∙ append_assoc old front (take part.0 back) ∙ ap (λ text. old ++ text) (part_after front back part.0),
 )
 
 -- two texts were written, or where the second call was refused, the first and a part of the second

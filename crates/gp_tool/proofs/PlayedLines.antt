@@ -5,7 +5,7 @@ use Rattle.flash_core.specs.declared.flash.Flash.{Ghosts as Flash}
 use Rattle.script_tool.specs.Host.{Host}
 use Rattle.script_tool.specs.HostLines.{is_difference}
 use Rattle.script_tool.specs.Kept.{RepresentsHost}
-use Rattle.script_tool.specs.Printed.{kind_of, Printed, Nothing, printed_text, status_printed}
+use Rattle.script_tool.specs.Printed.{kind_played, Printed, Nothing, printed_text, status_printed}
 use Rattle.script_tool.specs.Kinds.{is_difference_kind, prints_kind}
 use Rattle.script_tool.proofs.AnswerKinds.{RefusesForm, differs_as}
 use Rattle.script_tool.specs.Line.{SaysLine}
@@ -17,18 +17,18 @@ use Rattle.script_tool.specs.declared.played.Played as the_played
 use Rattle.script_tool.specs.declared.played.StepStop.{StepStop}
 use Rattle.script_tool.specs.declared.played.StepStop.TheVariants.{Form, LinkFailed}
 use Rattle.gp_tool.specs.CardEnd.{Counting}
-use Rattle.gp_tool.specs.Effects.{Place}
+use Rattle.gp_tool.specs.Effects.{LinePlace}
 use Rattle.gp_tool.specs.Script.{BreaksScript, PlaysScript, texts_of}
 use Rattle.gp_tool.specs.Serve.{BreaksLine, RunsLine, Standing}
 use Rattle.gp_tool.specs.StepsCard.{StepsOver, StopsCard}
 
 -- a line that prints nothing has no text
-silent_text : (quiet : Bool) (printed : Printed) → prints_kind (kind_of printed) ≡ false → texts_of quiet printed ≡ []
+silent_text : (quiet : Bool) (printed : Printed) → prints_kind (kind_played printed) ≡ false → texts_of quiet printed ≡ []
 silent_text quiet Nothing none = refl
 silent_text quiet _ none = cc none
 
 -- any other one has one
-one_text : (quiet : Bool) (printed : Printed) → prints_kind (kind_of printed) ≡ true → texts_of quiet printed ≡ (printed_text quiet printed ++ 10 ∷ []) ∷ []
+one_text : (quiet : Bool) (printed : Printed) → prints_kind (kind_played printed) ≡ true → texts_of quiet printed ≡ (printed_text quiet printed ++ 10 ∷ []) ∷ []
 one_text quiet Nothing some = cc some
 one_text quiet _ some = refl
 
@@ -43,7 +43,7 @@ stopped_by_link result number line (Form n) said form says is =
 
 module _ {F : Type 0} (device : Flash F) (line : List ℕ) (old new : Standing F HostState) (from to : Counting F)
     (before : old.card ≡ from.card) (behind : new.card ≡ to.card) (count : old.done ≡ from.done) (count' : new.done ≡ to.done)
-    (place : Place Host) (said : ScriptLine) (says : SaysLine line said) where
+    (place : LinePlace Host) (said : ScriptLine) (says : SaysLine line said) where
   module _ (text : List ℕ) (played : the_played.Played) (differs : new.differs ≡ (old.differs || is_difference_kind played))
       (over : StepsOver device from to place.memory place.state said new.held text played) where
     -- the line was played

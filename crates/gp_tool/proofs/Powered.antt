@@ -21,7 +21,7 @@ use Rattle.gp_tool.proofs.SaidElse.{said_else}
 use Rattle.gp_tool.specs.Around.{Around, around}
 use Rattle.gp_tool.specs.Ends.{EndCause}
 use Rattle.gp_tool.specs.RunsLines.{start}
-use Rattle.gp_tool.specs.Verbs.{Serves}
+use Rattle.gp_tool.specs.Verbs.{ServesCard}
 use Rattle.gp_tool.specs.declared.verb.Verb.{Verb}
 use Rattle.line_runs.specs.declared.exit.Ending.{Ending}
 use Rattle.line_runs.specs.declared.exit.Ending.TheVariants.{Failed}
@@ -59,8 +59,8 @@ module _ {S K F : Type 0} (verb : Verb) (source : Source S) (sink : Sink K) (dev
     (powered : device.tells → (all : List Registry) → Always (device.may_leave old) (ReopensAsOne all) → LeavesOnly device old card.flash (ReopensAsOne all))
     (later : device.faults old ≤ device.faults card.flash) where
   pub serves_since : (Stands : State → Type 0) (status count : ℕ) (s s' : S) (k k' : K) (new : F)
-      → Serves verb source sink device Stands first status count (around s k card.flash) (around s' k' new)
-      → Serves verb source sink device (λ last. Unit {0}) first status count (around s k old) (around s' k' new)
+      → ServesCard verb source sink device Stands first status count (around s k card.flash) (around s' k' new)
+      → ServesCard verb source sink device (λ last. Unit {0}) first status count (around s k old) (around s' k' new)
   serves_since Stands status count s s' k k' new serves =
       let ends = said_else verb source.tells sink.tells
       (λ outcomes last. HasRun device card.flash new first count outcomes last × Stands last)

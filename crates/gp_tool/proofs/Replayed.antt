@@ -11,25 +11,25 @@ use Rattle.gp_tool.proofs.Moments.{nothing_done}
 use Rattle.gp_tool.proofs.Spelled.{not_for_card}
 use Rattle.gp_tool.specs.Compare.{ComparesLine, IsMet, KeepsLine, keeping}
 use Rattle.gp_tool.specs.Device.{LeavesOneOf, registries}
-use Rattle.gp_tool.specs.Effects.{Effect, Place}
+use Rattle.gp_tool.specs.Effects.{LineEffect, LinePlace}
 use Rattle.gp_tool.specs.Form.{FailsCommand}
-use Rattle.gp_tool.specs.Replay.{Compares, IsForReplay, Kept, Replays}
+use Rattle.gp_tool.specs.Replay.{Compares, IsForReplay, LastReply, Replays}
 use Rattle.gp_tool.specs.Serve.{IsHeld, RunsLine, ServesLine, Standing, StandsAt}
 use Rattle.gp_tool.specs.declared.line.LineEnd.{LineEnd}
 use Rattle.gp_tool.specs.declared.line.LineEnd.TheVariants.{Done, NoForm, WriteFault, FlashFault}
 
 -- no command is in a comparison
-no_outcomes : (number : ℕ) (want got : List ℕ) (effect : Effect) → Compares number want got effect → effect.outcomes ≡ []
-no_outcomes number want got effect (inl same) = ap (λ (e : Effect). e.outcomes) same.1
-no_outcomes number want got effect (inr differs) = ap (λ (e : Effect). e.outcomes) differs.1
+no_outcomes : (number : ℕ) (want got : List ℕ) (effect : LineEffect) → Compares number want got effect → effect.outcomes ≡ []
+no_outcomes number want got effect (inl same) = ap (λ (e : LineEffect). e.outcomes) same.1
+no_outcomes number want got effect (inr differs) = ap (λ (e : LineEffect). e.outcomes) differs.1
 
 module _ {F : Type 0} (device : Flash F) (writes : Type 0) (number : ℕ) (line : List ℕ) where
-  abbrev Serves : Standing F Kept → Standing F Kept → List ℕ → List ℕ → LineEnd → Type 0
+  abbrev Serves : Standing F LastReply → Standing F LastReply → List ℕ → List ℕ → LineEnd → Type 0
   Serves old new text text' result = ServesLine IsHeld (Replays number line) (IsForReplay line) (FailsCommand line) device writes old new text text' result
 
-  module _ (only : (f : F) (c : List Page) → device.tells → device.left_since f (device.moment f) c → device.may_leave f c) (card : CardOver F) (kept kept' : Kept) (done : ℕ) (differs differs' : Bool) where
+  module _ (only : (f : F) (c : List Page) → device.tells → device.left_since f (device.moment f) c → device.may_leave f c) (card : CardOver F) (kept kept' : LastReply) (done : ℕ) (differs differs' : Bool) where
     -- a reply was compared
-    met_runs : (met : IsMet number line kept kept' differs differs') (place : Place Kept) → StandsAt IsHeld device (keeping card kept done differs) place
+    met_runs : (met : IsMet number line kept kept' differs differs') (place : LinePlace LastReply) → StandsAt IsHeld device (keeping card kept done differs) place
         → (played : RunsLine IsHeld (Replays number line) device (keeping card kept done differs) (keeping card kept' done differs') place) × (played.effect.texts ≡ met.effect.texts)
     met_runs met place stands =
         let meets = met.meets in
@@ -65,7 +65,7 @@ module _ {F : Type 0} (device : Flash F) (writes : Type 0) (number : ℕ) (line 
     compared_serves rest text text' begins FlashFault compared = absurd compared
 
   -- a line was given to the card
-  pub kept_serves : (old new : Standing F Kept) (text : List ℕ) → ((rest : List ℕ) → line ≡ 61 ∷ rest → ⊥) → (result : LineEnd) → KeepsLine line device old new result
+  pub kept_serves : (old new : Standing F LastReply) (text : List ℕ) → ((rest : List ℕ) → line ≡ 61 ∷ rest → ⊥) → (result : LineEnd) → KeepsLine line device old new result
       → Serves old new text text result
   kept_serves old new text other Done kept = λ place stands.
       (let played = kept place stands in

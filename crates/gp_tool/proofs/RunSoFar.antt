@@ -17,12 +17,12 @@ use Rattle.gp_tool.proofs.Counting.{count_more, exactly}
 use Rattle.gp_tool.proofs.FewOutcomes.{breaks_few, line_few}
 use Rattle.gp_tool.proofs.Moments.{has_run, has_failed}
 use Rattle.gp_tool.proofs.RunsMore.{leaves_further, runs_more}
-use Rattle.gp_tool.specs.Counted.{CountsOn, counted}
+use Rattle.gp_tool.specs.Counted.{CountsOn, bounded_count}
 use Rattle.gp_tool.specs.Device.{HasFailed, HasRun, LeavesOneOf, registries}
-use Rattle.gp_tool.specs.Effects.{Effect, Place, joined, nothing}
+use Rattle.gp_tool.specs.Effects.{LineEffect, LinePlace, both_effects, nothing}
 use Rattle.gp_tool.specs.Ends.{Course, Ends, IsBad}
 use Rattle.line_runs.specs.Outside.{Outside}
-use Rattle.line_runs.specs.Taken.{IsRead, IsShortCut, TakesNoMore, room_ahead}
+use Rattle.line_runs.specs.Taken.{AreAllTaken, IsShortCut, TakesNoMore, room_ahead}
 use Rattle.gp_tool.specs.Going.{Going, Reached}
 use Rattle.gp_tool.specs.RunsLines.{Memory, PlaysLine, RunsLines, no_memory, start}
 use Rattle.line_runs.specs.Outside.{bad_line}
@@ -85,7 +85,7 @@ module _ {F : Type 0} (verb : Verb) (device : Flash F) (reads writes : Type 0) (
         → LeavesOneOf device mid new (registries going.place.state more) → LeavesOneOf device from new (registries first (going.effect.outcomes ++ more))
     leaves_more mid new more since leaves = leaves_further verb device going.given (start verb first) going.place going.effect going.plays from mid new more since leaves
 
-    done_more : (more : List Outcome) (count : ℕ) → CountsOn at.done count (length more) → count ≡ counted (length (going.effect.outcomes ++ more))
+    done_more : (more : List Outcome) (count : ℕ) → CountsOn at.done count (length more) → count ≡ bounded_count (length (going.effect.outcomes ++ more))
     done_more more count done = count_more at.done count going.effect.outcomes more going.done done
 
     -- a line that goes on passes its bytes, and one at least
@@ -109,8 +109,8 @@ module _ {F : Type 0} (verb : Verb) (device : Flash F) (reads writes : Type 0) (
         let all = length-append going.effect.outcomes more in
         exactly count (length (going.effect.outcomes ++ more)) (done_more more count done) (omega (arith, few, passed, all, one, fits))
 
-    plays_more : (line : List ℕ) (next : Place (Memory verb)) (one : Effect) → PlaysLine verb (old.number + 1) line going.place one next
-        → RunsLines verb 1 (going.given ++ line ∷ []) (start verb first) (joined going.effect one) next
+    plays_more : (line : List ℕ) (next : LinePlace (Memory verb)) (one : LineEffect) → PlaysLine verb (old.number + 1) line going.place one next
+        → RunsLines verb 1 (going.given ++ line ∷ []) (start verb first) (both_effects going.effect one) next
     plays_more line next one plays =
         let number = going.number in
         runs_more verb 1 (old.number + 1) going.given line (start verb first) going.place next going.effect one (omega (arith, number)) going.plays plays
@@ -122,7 +122,7 @@ module _ {F : Type 0} (verb : Verb) (device : Flash F) (reads writes : Type 0) (
         let played = takes.played in
         record {
           given = going.given ++ takes.line ∷ [];
-          effect = joined going.effect played.effect;
+          effect = both_effects going.effect played.effect;
           last = played.next;
           ahead = after;
           fits = short_more going.given takes.line going.fits takes.fits;
@@ -152,7 +152,7 @@ module _ {F : Type 0} (verb : Verb) (device : Flash F) (reads writes : Type 0) (
         let played = takes.played in
         record {
           given = going.given ++ takes.line ∷ [];
-          effect = joined going.effect played.effect;
+          effect = both_effects going.effect played.effect;
           place = played.next;
           number = on.number ∙ ap (λ n. n + 1) going.number ∙ sym (length-append going.given (takes.line ∷ []));
           passed = λ told. on.passed told ∙ going.passed told;
@@ -203,7 +203,7 @@ module _ {F : Type 0} (verb : Verb) (device : Flash F) (reads writes : Type 0) (
     -- the input is at its end
     course_read : (reads → ahead old now.source.left ≡ []) → (reads → 0 < room old) → (reads → later.source.left ≡ [])
         → (course : Course verb reads first before.source.left later.source.left)
-        × (course.effect ≡ going.effect) × (course.last ≡ going.place) × (reads → IsRead before.source.left course.given course.ahead)
+        × (course.effect ≡ going.effect) × (course.last ≡ going.place) × (reads → AreAllTaken before.source.left course.given course.ahead)
     unfolding course_here
     course_read over some none =
         let short : reads → length before.source.left < INPUT_LIMIT
@@ -231,14 +231,14 @@ module _ {F : Type 0} (verb : Verb) (device : Flash F) (reads writes : Type 0) (
         let read = course_read over some none in
         record {
           course = read.0;
-          ends = (ap (λ (e : Effect). e.differs) read.1 ∙ sym going.differs ∙ equal, read.3, λ told. so_far silent told ∙ ap (λ (e : Effect). before.sink.written ++ concat e.texts) (sym read.1));
+          ends = (ap (λ (e : LineEffect). e.differs) read.1 ∙ sym going.differs ∙ equal, read.3, λ told. so_far silent told ∙ ap (λ (e : LineEffect). before.sink.written ++ concat e.texts) (sym read.1));
           rests = λ other. rw (read.1, read.2) (rested within same);
         }
     going_ends within Differs (same, equal, (over, some, none, silent)) flushes =
         let read = course_read over some none in
         record {
           course = read.0;
-          ends = (ap (λ (e : Effect). e.differs) read.1 ∙ sym going.differs ∙ equal, read.3, λ told. so_far silent told ∙ ap (λ (e : Effect). before.sink.written ++ concat e.texts) (sym read.1));
+          ends = (ap (λ (e : LineEffect). e.differs) read.1 ∙ sym going.differs ∙ equal, read.3, λ told. so_far silent told ∙ ap (λ (e : LineEffect). before.sink.written ++ concat e.texts) (sym read.1));
           rests = λ other. rw (read.1, read.2) (rested within same);
         }
     going_ends within BadLine (same, (bad, refuses, taken)) flushes = record {

@@ -18,7 +18,7 @@ use Rattle.script_tool.specs.Quiet.{is_quiet}
 use Rattle.script_tool.specs.Talk.{Answered, Ends, Event, Goes, Reset}
 use Rattle.script_lines.specs.declared.line.ScriptLine.{ScriptLine}
 use Rattle.gp_tool.specs.Device.{registries}
-use Rattle.gp_tool.specs.Effects.{Effect, Place}
+use Rattle.gp_tool.specs.Effects.{LineEffect, LinePlace}
 use Rattle.gp_tool.specs.Script.{AnswersEvents, PlaysScript, texts_of}
 
 -- the answers lead the card on
@@ -68,14 +68,14 @@ answers_end state (Answered command reply ∷ events) (outcome ∷ outcomes) las
     contains_later state.registry (registries outcome.state outcomes) last.registry (answers_end outcome.state events outcomes last answers.2)
 
 -- what a line of a script does has all its parts in common
-pub record OneScript (one other : Effect) (next another : Place Host) : Type 0 where
+pub record OneScript (one other : LineEffect) (next another : LinePlace Host) : Type 0 where
   pub outcomes : one.outcomes ≡ other.outcomes
   pub texts : one.texts ≡ other.texts
   pub differs : one.differs ≡ other.differs
   pub memory : next.memory ≡ another.memory
   pub state : next.state ≡ another.state
 
-pub script_once : (line : List ℕ) (at next another : Place Host) (one other : Effect) → PlaysScript line at one next → PlaysScript line at other another
+pub script_once : (line : List ℕ) (at next another : LinePlace Host) (one other : LineEffect) → PlaysScript line at one next → PlaysScript line at other another
     → OneScript one other next another
 script_once line at next another one other (said, says, events, printed, after, goes, answers, texts, differs, memory) (said', says', events', printed', after', goes', answers', texts', differs', memory') =
     let same_said : said' ≡ said = one_line line said' said says' says in

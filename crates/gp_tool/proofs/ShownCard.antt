@@ -16,14 +16,14 @@ use Rattle.line_runs.specs.Exit.{exit_status}
 use Rattle.gp_tool.specs.Around.{Around}
 use Rattle.gp_tool.specs.Ends.{EndCause}
 use Rattle.gp_tool.specs.Flush.{AfterFlush}
-use Rattle.gp_tool.specs.Shown.{HasShown, IsFront, IsWhole, ShowEnds, WritesFront, WritesWhole}
+use Rattle.gp_tool.specs.Shown.{HasShown, IsFront, IsWholeView, ShowEnds, WritesFront, WritesWhole}
 use Rattle.line_runs.specs.declared.exit.Ending.{Ending}
 use Rattle.line_runs.specs.declared.exit.Ending.TheVariants.{Finished, Failed, WriteFault}
 use Rattle.gp_tool.specs.declared.view.View.{View}
 use Rattle.gp_tool.specs.declared.view.View.TheVariants as view
 
 -- all that there is to show is a front of it
-whole_front : (view : View) (registry : Registry) (text : List ℕ) → IsWhole view registry text → IsFront view registry text
+whole_front : (view : View) (registry : Registry) (text : List ℕ) → IsWholeView view registry text → IsFront view registry text
 whole_front view.Registry registry text is = is
 whole_front view.Rights registry text (rights, end, next, all, is) = (rights, end, next, is)
 

@@ -5,7 +5,7 @@ use Rattle.gp_tool.specs.Compare.{SkipsSpaces}
 use Rattle.script_tool.specs.Line.{IsBlank}
 use Rattle.gp_tool.specs.Form.{IsHex}
 use Rattle.gp_tool.specs.Replay.{Wants}
-use Rattle.gp_tool.proofs.Spelled.{digits_behind}
+use Rattle.gp_tool.proofs.Spelled.{digits_after}
 use Rattle.hex.proofs.HexLemmas.{decode_of-ok}
 use Rattle.hex.specs.Hex.{decode_of}
 use Rattle.std.proofs.Math.ListN.{drop}
@@ -42,7 +42,7 @@ wanted_digits : (line rest text digits want : List ℕ) → line ≡ 61 ∷ rest
 wanted_digits line rest text digits want begins is skips wants =
     let two = wants.5 in
     let hex : IsHex wants.1 want = (wants.4, omega (arith, two)) in
-    digits_behind wants.0 skips.spaces wants.1 digits want wants.3 skips.blank hex skips.no_more (cc (wants.2, begins, is, skips.is))
+    digits_after wants.0 skips.spaces wants.1 digits want wants.3 skips.blank hex skips.no_more (cc (wants.2, begins, is, skips.is))
 
 -- a line whose digits are too few wants no reply
 pub few_digits : (line rest text digits want : List ℕ) → line ≡ 61 ∷ rest → text ≡ rest → SkipsSpaces text digits → Wants line want → length digits < 4 → ⊥

@@ -96,18 +96,18 @@ digits_once (b ∷ spaces) (c ∷ others) digits more some bytes blank blank' he
     digits_once spaces others digits more some bytes (All-tail (λ byte. byte ≡ 32) b spaces blank) (All-tail (λ byte. byte ≡ 32) c others blank') hex hex' (cc same)
 
 -- after all spaces of a text stand its digits
-pub digits_behind : (spaces others digits rest some : List ℕ) → IsBlank spaces → IsBlank others → IsHex digits some → ((more : List ℕ) → rest ≡ 32 ∷ more → ⊥)
+pub digits_after : (spaces others digits rest some : List ℕ) → IsBlank spaces → IsBlank others → IsHex digits some → ((more : List ℕ) → rest ≡ 32 ∷ more → ⊥)
     → spaces ++ digits ≡ others ++ rest → digits ≡ rest
-digits_behind [] [] digits rest some blank blank' hex no_more same = same
-digits_behind [] (b ∷ others) digits rest some blank blank' hex no_more same =
+digits_after [] [] digits rest some blank blank' hex no_more same = same
+digits_after [] (b ∷ others) digits rest some blank blank' hex no_more same =
     let space : b ≡ 32 = All-head (λ byte. byte ≡ 32) b others blank' in
     let digit : is_hex_digit 32 ≡ true = subst (λ (x : ℕ). is_hex_digit x ≡ true) space (begins_digit digits some (others ++ rest) b hex same) in
     cc digit
-digits_behind (b ∷ spaces) [] digits rest some blank blank' hex no_more same =
+digits_after (b ∷ spaces) [] digits rest some blank blank' hex no_more same =
     let space : b ≡ 32 = All-head (λ byte. byte ≡ 32) b spaces blank in
     absurd (no_more (spaces ++ digits) (sym same ∙ ap (λ x. x ∷ (spaces ++ digits)) space))
-digits_behind (b ∷ spaces) (c ∷ others) digits rest some blank blank' hex no_more same =
-    digits_behind spaces others digits rest some (All-tail (λ byte. byte ≡ 32) b spaces blank) (All-tail (λ byte. byte ≡ 32) c others blank') hex no_more (cc same)
+digits_after (b ∷ spaces) (c ∷ others) digits rest some blank blank' hex no_more same =
+    digits_after spaces others digits rest some (All-tail (λ byte. byte ≡ 32) b spaces blank) (All-tail (λ byte. byte ≡ 32) c others blank') hex no_more (cc same)
 
 -- a line wants one reply
 pub wants_once : (line want other : List ℕ) → Wants line want → Wants line other → want ≡ other

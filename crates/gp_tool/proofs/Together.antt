@@ -7,7 +7,7 @@ use Rattle.script_tool.specs.HostLines.{HostPlaysAll, text_line}
 use Rattle.script_tool.specs.Printed.{Printed, Nothing, Reply, Opened, Cryptogram, Said, Differs, printed_text}
 use Rattle.script_tool.specs.Quiet.{is_quiet}
 use Rattle.script_tool.specs.Talk.{Answered, Event, Reset}
-use Rattle.gp_tool.specs.Effects.{Effect, Place}
+use Rattle.gp_tool.specs.Effects.{LineEffect, LinePlace}
 use Rattle.gp_tool.specs.HostAndCard.{HostAndCard, PlayedTogether, without_empty}
 use Rattle.gp_tool.specs.RunsLines.{RunsLines}
 use Rattle.gp_tool.specs.Script.{AnswersEvents, texts_of}
@@ -51,7 +51,7 @@ first_text quiet (Cryptogram counter) texts = ended_text (printed_text quiet (Cr
 first_text quiet (Said word) texts = ended_text (printed_text quiet (Said word)) texts
 first_text quiet (Differs want got) texts = ended_text (printed_text quiet (Differs want got)) texts
 
-together_runs : (number : ℕ) (lines : List (List ℕ)) (at last : Place Host) (effect : Effect) (events : List Event) (texts : List (List ℕ))
+together_runs : (number : ℕ) (lines : List (List ℕ)) (at last : LinePlace Host) (effect : LineEffect) (events : List Event) (texts : List (List ℕ))
     → HostPlaysAll lines at.memory events texts effect.differs last.memory → AnswersEvents at.state events effect.outcomes last.state
     → effect.texts ≡ without_empty texts → RunsLines Play number lines at effect last
 together_runs number [] at last effect events texts plays answers are =
@@ -65,8 +65,8 @@ together_runs number (line ∷ lines) at last effect events texts (some, text, o
     let first : List (List ℕ) = texts_of (is_quiet here.said) here.printed in
     let joined_texts : effect.texts ≡ first ++ without_empty rest
     = are ∙ ap without_empty texts_are ∙ ap (λ (t : List ℕ). without_empty (t ∷ rest)) here.text_is ∙ first_text (is_quiet here.said) here.printed rest in
-    let mid : Place Host = record { memory = next; state = split.1 } in
-    let behind : Effect = record { outcomes = split.2; texts = without_empty rest; differs = others } in (
+    let mid : LinePlace Host = record { memory = next; state = split.1 } in
+    let behind : LineEffect = record { outcomes = split.2; texts = without_empty rest; differs = others } in (
       record { outcomes = split.0; texts = first; differs = one },
       mid,
       behind,
@@ -75,13 +75,13 @@ together_runs number (line ∷ lines) at last effect events texts (some, text, o
       λ i. record { outcomes = split.5 i; texts = joined_texts i; differs = differs i },
     )
 
-runs_together : (number : ℕ) (lines : List (List ℕ)) (at last : Place Host) (effect : Effect) → RunsLines Play number lines at effect last → PlayedTogether lines at effect last
+runs_together : (number : ℕ) (lines : List (List ℕ)) (at last : LinePlace Host) (effect : LineEffect) → RunsLines Play number lines at effect last → PlayedTogether lines at effect last
 runs_together number [] at last effect (nothing, same) = record {
   events = [];
   texts = [];
-  plays = (refl, refl, ap (λ (e : Effect). e.differs) nothing, ap (λ (p : Place Host). p.memory) same);
-  answers = (ap (λ (e : Effect). e.outcomes) nothing, ap (λ (p : Place Host). p.state) same);
-  texts_are = ap (λ (e : Effect). e.texts) nothing;
+  plays = (refl, refl, ap (λ (e : LineEffect). e.differs) nothing, ap (λ (p : LinePlace Host). p.memory) same);
+  answers = (ap (λ (e : LineEffect). e.outcomes) nothing, ap (λ (p : LinePlace Host). p.state) same);
+  texts_are = ap (λ (e : LineEffect). e.texts) nothing;
 }
 runs_together number (line ∷ lines) at last effect (one, next, more, (said, says, events, printed, after, goes, answers, texts, differs, memory), runs, joins) =
     let rest = runs_together (number + 1) lines next last more runs in
@@ -110,11 +110,11 @@ runs_together number (line ∷ lines) at last effect (one, next, more, (said, sa
         rest.plays,
         refl,
         refl,
-        ap (λ (e : Effect). e.differs) joins,
+        ap (λ (e : LineEffect). e.differs) joins,
       );
-      answers = subst (λ (e : Effect). AnswersEvents at.state (events ++ rest.events) e.outcomes last.state) (sym joins)
+      answers = subst (λ (e : LineEffect). AnswersEvents at.state (events ++ rest.events) e.outcomes last.state) (sym joins)
           (answers_on at.state next.state last.state events rest.events one.outcomes more.outcomes answers rest.answers);
-      texts_are = ap (λ (e : Effect). e.texts) joins ∙ ap (λ (t : List (List ℕ)). t ++ more.texts) texts
+      texts_are = ap (λ (e : LineEffect). e.texts) joins ∙ ap (λ (t : List (List ℕ)). t ++ more.texts) texts
           ∙ ap (λ (t : List (List ℕ)). texts_of (is_quiet said) printed ++ t) rest.texts_are ∙ sym (first_text (is_quiet said) printed rest.texts);
     }
 

@@ -5,7 +5,7 @@ use Rattle.io_edge.specs.Lines.{Reading, GivesLine, ahead, room}
 use Rattle.io_edge.specs.declared.line.Line.{Line}
 use Rattle.io_edge.specs.declared.line.TheConstants.{LINE_LIMIT}
 use Rattle.line_runs.specs.Exit.{ending_of}
-use Rattle.gp_tool.specs.Effects.{Place}
+use Rattle.gp_tool.specs.Effects.{LinePlace}
 use Rattle.gp_tool.specs.Ends.{IsBad}
 use Rattle.line_runs.specs.Outside.{Outside}
 use Rattle.gp_tool.specs.RunsLines.{FailsLine, HasForm, Memory, PlaysLine}
@@ -42,13 +42,13 @@ refuses_from writes number before mid now Finished same refuses = absurd refuses
 refuses_from writes number before mid now _ same refuses = absurd refuses
 
 -- the line that was given is the next one ahead
-unfoldable pub given_line : {F : Type 0} (verb : Verb) (device : Flash F) (reads : Type 0) (number : ℕ) (at at' : Standing F (Held verb)) (place : Place (Memory verb)) (old new : Reading) (left left' : List ℕ) (line : Line)
+unfoldable pub given_line : {F : Type 0} (verb : Verb) (device : Flash F) (reads : Type 0) (number : ℕ) (at at' : Standing F (Held verb)) (place : LinePlace (Memory verb)) (old new : Reading) (left left' : List ℕ) (line : Line)
     → GivesLine reads old new left left' line → length line.text.now ≤ LINE_LIMIT
     → RunsLine (Means verb) (PlaysLine verb number line.text.now) device at at' place → TakesLine verb device reads number at at' place (room old) (ahead old left) (ahead new left')
 given_line verb device reads number at at' place old new left left' line gives fits played = record { line = line.text.now; next = gives.line; fits = fits; played = played }
 
 -- the device failed in its command
-pub failing_line : {F : Type 0} (verb : Verb) (device : Flash F) (reads : Type 0) (at at' : Standing F (Held verb)) (place : Place (Memory verb)) (old new : Reading) (left left' : List ℕ) (line : Line)
+pub failing_line : {F : Type 0} (verb : Verb) (device : Flash F) (reads : Type 0) (at at' : Standing F (Held verb)) (place : LinePlace (Memory verb)) (old new : Reading) (left left' : List ℕ) (line : Line)
     → GivesLine reads old new left left' line → length line.text.now ≤ LINE_LIMIT → BreaksLine (FailsLine verb line.text.now) device at at' place
     → BreaksNext verb device reads at at' place (room old) (ahead old left)
 failing_line verb device reads at at' place old new left left' line gives fits breaks = record {

@@ -4,14 +4,14 @@ use Rattle.std.specs.List.{flat_map}
 use Rattle.faults.specs.Faults.{next_count}
 use Rattle.apdu_core.specs.Apdu.{Apdu}
 use Rattle.cap_pack.specs.Cap.{CapOf}
-use Rattle.cap_pack.specs.Input.{SpellLines, joining, limited}
+use Rattle.cap_pack.specs.Input.{SpellLines, joining, within_cap_limit}
 use Rattle.cap_pack.specs.Pack.{pack, send_line}
 use Rattle.cap_pack.specs.Said.{stop_text}
-use Rattle.cap_pack.specs.Stops.{Stops}
+use Rattle.cap_pack.specs.Stops.{StopsPacking}
 use Rattle.cap_pack.specs.declared.stop.CapStop.{CapStop}
-use Rattle.line_runs.specs.Ends.{Course, EndsAt, IsCutOff}
+use Rattle.line_runs.specs.Ends.{IsCutOff, LinesCourse, LinesEndAt}
 use Rattle.line_runs.specs.Outside.{Outside}
-use Rattle.line_runs.specs.Taken.{IsRead}
+use Rattle.line_runs.specs.Taken.{AreAllTaken}
 use Rattle.line_runs.specs.declared.ending.LinesEnd.TheVariants as lines
 use Rattle.gp_tool.specs.Cardless.{CardlessEnds}
 use Rattle.line_runs.specs.declared.exit.Ending.{Ending}
@@ -24,7 +24,7 @@ pack_line command = send_line command ++ 10 ∷ []
 -- what bytes come to: the lines of the commands that load and install, or where they are refused the text of the stop
 abbrev pub ComesTo : List ℕ → Bool → List ℕ → Type 0
 ComesTo bytes false text = (file : List ℕ) × (aids : List (List ℕ)) × CapOf bytes file aids × (text ≡ flat_map pack_line (pack file bytes aids))
-ComesTo bytes true text = (stop : CapStop) × Stops bytes stop × (text ≡ stop_text stop ++ 10 ∷ [])
+ComesTo bytes true text = (stop : CapStop) × StopsPacking bytes stop × (text ≡ stop_text stop ++ 10 ∷ [])
 
 -- what is written of bytes, whole or up to a fault
 abbrev pub WritesJoined : List ℕ → Type 0 → List ℕ → List ℕ → Ending → Type 0
@@ -36,11 +36,11 @@ WritesJoined bytes writes old new ending = ⊥
 
 -- the course of the lines that were joined, up to the end
 abbrev pub CapCourse : Type 0 → (old new : Outside) → Type 0
-CapCourse reads old new = Course joining reads (limited []) old.source.left new.source.left
+CapCourse reads old new = LinesCourse joining reads (within_cap_limit []) old.source.left new.source.left
 
 -- All lines were joined, and this text is what their bytes come to.
 pub record Packs {reads : Type 0} (old new : Outside) (course : CapCourse reads old new) (refused : Bool) (text : List ℕ) : Type 0 where
-  pub read : reads → IsRead old.source.left course.given course.ahead
+  pub read : reads → AreAllTaken old.source.left course.given course.ahead
   pub bytes : List ℕ
   pub spelled : SpellLines course.given bytes
   pub come_to : ComesTo bytes refused text
@@ -54,8 +54,8 @@ WritesPack writes old new course refused =
 abbrev pub CapFaultless : {reads : Type 0} → Type 0 → (old new : Outside) → CapCourse reads old new → Ending → Type 0
 CapFaultless writes old new course Finished = WritesPack writes old new course false
 CapFaultless writes old new course Differs = WritesPack writes old new course true
-CapFaultless writes old new course BadLine = EndsAt writes old new course lines.BadLine
-CapFaultless writes old new course InputTooLong = EndsAt writes old new course lines.InputTooLong
+CapFaultless writes old new course BadLine = LinesEndAt writes old new course lines.BadLine
+CapFaultless writes old new course InputTooLong = LinesEndAt writes old new course lines.InputTooLong
 CapFaultless writes old new course ending = ⊥
 
 -- a part of the text was written, and nothing was flushed
@@ -67,7 +67,7 @@ CutsPack writes old new course =
 -- What holds after the course at each ending. At a refused write or flush the text was cut, or all was written and its
 -- flush was refused.
 abbrev pub CapEndsAt : {reads : Type 0} → Type 0 → (old new : Outside) → CapCourse reads old new → Ending → Type 0
-CapEndsAt writes old new course ReadFault = EndsAt writes old new course lines.ReadFault
+CapEndsAt writes old new course ReadFault = LinesEndAt writes old new course lines.ReadFault
 CapEndsAt writes old new course WriteFault =
     IsCutOff writes old new course
     ⊎ CutsPack writes old new course

@@ -15,7 +15,7 @@ pub record Counting (F : Type 0) : Type 0 where
   pub done : ℕ
 
 -- The inputs have come from a first state, and the card has answered all.
-pub record HasCome {F : Type 0} (device : Flash F) (old new : Counting F) (first : State) (inputs : List Input) : Type 0 where
+pub record HaveCome {F : Type 0} (device : Flash F) (old new : Counting F) (first : State) (inputs : List Input) : Type 0 where
   pub outcomes : List Outcome
   pub last : State
   pub run : Run first inputs outcomes last
@@ -39,5 +39,5 @@ pub record HasStopped {F : Type 0} (device : Flash F) (old new : Counting F) (fi
 
 -- one or the other, by whether the card goes on
 abbrev pub Comes : {F : Type 0} → Flash F → Counting F → Counting F → State → List Input → Bool → Type 0
-Comes device old new first inputs true = HasCome device old new first inputs
+Comes device old new first inputs true = HaveCome device old new first inputs
 Comes device old new first inputs false = HasStopped device old new first inputs

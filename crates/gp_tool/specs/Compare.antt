@@ -3,10 +3,10 @@ use Rattle.std.specs.Prelude.{◌≡◌, ℕ, Bool, ◌||◌, List, [], ◌∷�
 use Rattle.std.specs.List.{concat}
 use Rattle.card_core.specs.Card.{CardOver}
 use Rattle.flash_core.specs.declared.flash.Flash.{Ghosts as Flash}
-use Rattle.gp_tool.specs.Effects.{Effect, Place}
+use Rattle.gp_tool.specs.Effects.{LineEffect, LinePlace}
 use Rattle.script_tool.specs.Line.{IsBlank}
 use Rattle.gp_tool.specs.Form.{FailsCommand, IsForCard}
-use Rattle.gp_tool.specs.Replay.{Compares, Keeps, Kept, Meets}
+use Rattle.gp_tool.specs.Replay.{Compares, KeepsReplies, LastReply, Meets}
 use Rattle.gp_tool.specs.Serve.{BreaksLine, IsHeld, RunsLine, Standing, StandsAt}
 use Rattle.gp_tool.specs.declared.line.LineEnd.{LineEnd}
 use Rattle.gp_tool.specs.declared.line.LineEnd.TheVariants.{Done, NoForm, WriteFault, FlashFault}
@@ -19,17 +19,17 @@ pub record SkipsSpaces (text rest : List ℕ) : Type 0 where
   pub no_more : (more : List ℕ) → rest ≡ 32 ∷ more → ⊥
 
 -- The reply that was kept was compared.
-pub record IsMet (number : ℕ) (line : List ℕ) (kept kept' : Kept) (differs differs' : Bool) : Type 0 where
+pub record IsMet (number : ℕ) (line : List ℕ) (kept kept' : LastReply) (differs differs' : Bool) : Type 0 where
   pub want : List ℕ
   pub got : List ℕ
-  pub effect : Effect
+  pub effect : LineEffect
   pub meets : Meets line kept want got
   pub compares : Compares number want got effect
   pub kept_no_more : kept' ≡ None
   pub tells : differs' ≡ (differs || effect.differs)
 
 -- what is kept then, whether a reply has differed, and what has been written
-abbrev pub ComparesLine : ℕ → List ℕ → Type 0 → Kept → Kept → Bool → Bool → List ℕ → List ℕ → LineEnd → Type 0
+abbrev pub ComparesLine : ℕ → List ℕ → Type 0 → LastReply → LastReply → Bool → Bool → List ℕ → List ℕ → LineEnd → Type 0
 ComparesLine number line writes kept kept' differs differs' old new Done =
     (met : IsMet number line kept kept' differs differs') × (writes → new ≡ old ++ concat met.effect.texts)
 ComparesLine number line writes kept kept' differs differs' old new NoForm =
@@ -40,12 +40,12 @@ ComparesLine number line writes kept kept' differs differs' old new WriteFault =
 ComparesLine number line writes kept kept' differs differs' old new FlashFault = ⊥
 
 -- what comes of a line for the card in `replay`, which writes nothing
-abbrev pub KeepsLine : {F : Type 0} → List ℕ → Flash F → Standing F Kept → Standing F Kept → LineEnd → Type 0
-KeepsLine line device old new Done = (place : Place Kept) → StandsAt IsHeld device old place → (played : RunsLine IsHeld (Keeps line) device old new place) × (played.effect.texts ≡ [])
+abbrev pub KeepsLine : {F : Type 0} → List ℕ → Flash F → Standing F LastReply → Standing F LastReply → LineEnd → Type 0
+KeepsLine line device old new Done = (place : LinePlace LastReply) → StandsAt IsHeld device old place → (played : RunsLine IsHeld (KeepsReplies line) device old new place) × (played.effect.texts ≡ [])
 KeepsLine line device old new NoForm = (IsForCard line → ⊥) × (new ≡ old)
 KeepsLine line device old new WriteFault = ⊥
-KeepsLine line device old new FlashFault = (place : Place Kept) → StandsAt IsHeld device old place → BreaksLine (FailsCommand line) device old new place
+KeepsLine line device old new FlashFault = (place : LinePlace LastReply) → StandsAt IsHeld device old place → BreaksLine (FailsCommand line) device old new place
 
 -- where the code stands in `replay`
-abbrev pub keeping : {F : Type 0} → CardOver F → Kept → ℕ → Bool → Standing F Kept
+abbrev pub keeping : {F : Type 0} → CardOver F → LastReply → ℕ → Bool → Standing F LastReply
 keeping card kept done differs = record { card = card; held = kept; done = done; differs = differs }

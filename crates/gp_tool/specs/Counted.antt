@@ -2,9 +2,9 @@
 use Rattle.std.specs.Prelude.{◌≡◌, ℕ, ◌+◌, ◌-◌, ◌^◌, min}
 
 -- A count ends at the greatest number that it can hold. No run comes so far.
-abbrev pub counted : ℕ → ℕ
-counted n = min n (2 ^ 32 - 1)
+abbrev pub bounded_count : ℕ → ℕ
+bounded_count n = min n (2 ^ 32 - 1)
 
 -- it counts so many more
 abbrev pub CountsOn : ℕ → ℕ → ℕ → Type 0
-CountsOn count count' more = (n : ℕ) → count ≡ counted n → count' ≡ counted (n + more)
+CountsOn count count' more = (n : ℕ) → count ≡ bounded_count n → count' ≡ bounded_count (n + more)

@@ -9,7 +9,7 @@ use Rattle.page_journal.specs.Moments.{Always, LeavesOnly}
 use Rattle.policy_machine.specs.State.{State}
 use Rattle.policy_machine.specs.Step.{Outcome}
 use Rattle.rec_store.specs.Contents.{IsNoCard}
-use Rattle.rec_store.specs.Reopens.{Keeps, Reopens, ReopensAsOne}
+use Rattle.rec_store.specs.Reopens.{KeepsRegistry, Reopens, ReopensAsOne}
 
 -- the registries that a run goes through: the one before it, and the one after each command
 abbrev pub registries : State → List Outcome → List Registry
@@ -44,7 +44,7 @@ pub record IsNotPowered {F : Type 0} (device : Flash F) (status count : ℕ) (ol
 -- moment one that is not of the run.
 pub record HasRun {F : Type 0} (device : Flash F) (old new : F) (first : State) (count : ℕ) (outcomes : List Outcome) (last : State) : Type 0 where
   pub done : count ≡ length outcomes
-  pub keeps : device.tells → Keeps device new last.registry
+  pub keeps : device.tells → KeepsRegistry device new last.registry
   pub moments : device.tells → Always (device.may_leave old) (λ outcome. Reopens outcome first.registry) → LeavesOnly device old new (ReopensAsOne (registries first outcomes))
 
 -- The device failed in the command after them: power lost now leaves the registry from before that command or the one after

@@ -6,11 +6,11 @@ use Rattle.io_edge.specs.Lines.{IsNextLine}
 use Rattle.io_edge.specs.Streams.{SinkState}
 use Rattle.io_edge.specs.declared.line.TheConstants.{INPUT_LIMIT, LINE_LIMIT}
 use Rattle.line_runs.specs.Outside.{CutsText, Outside, Wrote, bad_line}
-use Rattle.line_runs.specs.Taken.{ComeFirst, HoldsNoLine, IsBadLine, IsRead, IsShortCut, TakesNoMore, room_ahead}
+use Rattle.line_runs.specs.Taken.{AreAllTaken, ComeFirst, HoldsNoLine, IsBadLine, IsShortCut, TakesNoMore, room_ahead}
 use Rattle.policy_machine.specs.State.{State}
 use Rattle.policy_machine.specs.Step.{Outcome}
 use Rattle.gp_tool.specs.Around.{Around}
-use Rattle.gp_tool.specs.Effects.{Effect, Place}
+use Rattle.gp_tool.specs.Effects.{LineEffect, LinePlace}
 use Rattle.gp_tool.specs.Flush.{IsHandedOn}
 use Rattle.gp_tool.specs.RunsLines.{FailsLine, HasForm, Memory, RunsLines, start}
 use Rattle.line_runs.specs.declared.exit.Ending.{Ending}
@@ -29,8 +29,8 @@ IsBad verb memory = IsBadLine (λ text. HasForm verb text memory)
 -- them, and what stands ahead after them.
 pub record Course (verb : Verb) (reads : Type 0) (first : State) (input left : List ℕ) : Type 0 where
   pub given : List (List ℕ)
-  pub effect : Effect
-  pub last : Place (Memory verb)
+  pub effect : LineEffect
+  pub last : LinePlace (Memory verb)
   pub ahead : List ℕ
   pub fits : AllByRecursion (λ line. length line ≤ LINE_LIMIT) given
   pub plays : RunsLines verb 1 given (start verb first) effect last
@@ -42,28 +42,28 @@ pub record WritesLast (verb : Verb) (first : State) (given texts : List (List �
   pub lines : List (List ℕ)
   pub line : List ℕ
   pub given_are : given ≡ lines ++ line ∷ []
-  pub before : Effect
-  pub place : Place (Memory verb)
+  pub before : LineEffect
+  pub place : LinePlace (Memory verb)
   pub plays : RunsLines verb 1 lines (start verb first) before place
   pub text : List ℕ
   pub texts_are : texts ≡ before.texts ++ text ∷ []
 
 -- The device failed in a command of the next line, after the outcomes of those before it in the line.
-abbrev pub FailsNext : (verb : Verb) → Type 0 → (List Outcome → State → Outcome → Type 0) → Place (Memory verb) → ℕ → List ℕ → Type 0
+abbrev pub FailsNext : (verb : Verb) → Type 0 → (List Outcome → State → Outcome → Type 0) → LinePlace (Memory verb) → ℕ → List ℕ → Type 0
 FailsNext verb reads Fails at room ahead =
     (line : List ℕ) × (reads → (after : List ℕ) × IsNextLine room ahead line after) × (length line ≤ LINE_LIMIT)
     × (begun : List Outcome) × (mid : State) × (next : Outcome) × FailsLine verb line at begun mid next × Fails begun mid next
 
 -- the texts of the lines given, and of a bad line after them
-abbrev pub with_bad_line : List (List ℕ) → Effect → List (List ℕ)
+abbrev pub with_bad_line : List (List ℕ) → LineEffect → List (List ℕ)
 with_bad_line given effect = effect.texts ++ bad_line (length given + 1) ∷ []
 
 -- What holds after the course where nothing has failed: why no further line was given, and what was written.
 abbrev pub EndsFaultless : (verb : Verb) (reads writes : Type 0) (first : State) (old new : Outside) → Course verb reads first old.source.left new.source.left → Ending → Type 0
 EndsFaultless verb reads writes first old new course Finished =
-    (course.effect.differs ≡ false) × (reads → IsRead old.source.left course.given course.ahead) × Wrote writes course.effect.texts old new
+    (course.effect.differs ≡ false) × (reads → AreAllTaken old.source.left course.given course.ahead) × Wrote writes course.effect.texts old new
 EndsFaultless verb reads writes first old new course Differs =
-    (course.effect.differs ≡ true) × (reads → IsRead old.source.left course.given course.ahead) × Wrote writes course.effect.texts old new
+    (course.effect.differs ≡ true) × (reads → AreAllTaken old.source.left course.given course.ahead) × Wrote writes course.effect.texts old new
 EndsFaultless verb reads writes first old new course BadLine =
     (reads → IsBad verb course.last.memory (room_ahead old.source.left course.ahead) course.ahead) × Wrote writes (with_bad_line course.given course.effect) old new
 EndsFaultless verb reads writes first old new course InputTooLong =

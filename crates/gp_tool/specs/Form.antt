@@ -1,6 +1,6 @@
 -- The forms of a line, and what a card is given by it.
 use Rattle.std.specs.Prelude.{◌≡◌, ◌⊎◌, ℕ, ◌<◌, List, [], ◌∷◌, length, codes, Ok, ◌≤◌, take}
-use Rattle.gp_tool.specs.Effects.{Place}
+use Rattle.gp_tool.specs.Effects.{LinePlace}
 use Rattle.gp_tool.specs.declared.form.Form.{Form}
 use Rattle.gp_tool.specs.declared.form.TheConstants.{COMMAND_LIMIT}
 use Rattle.hex.specs.Hex.{decode_of}
@@ -26,7 +26,7 @@ abbrev pub IsForCard : List ℕ → Type 0
 IsForCard line = (inputs : List Input) × SpellsInputs line inputs
 
 -- The device failed in the command of a line, which is its first.
-abbrev pub FailsCommand : {Memory : Type 0} → List ℕ → Place Memory → List Outcome → State → Outcome → Type 0
+abbrev pub FailsCommand : {Memory : Type 0} → List ℕ → LinePlace Memory → List Outcome → State → Outcome → Type 0
 FailsCommand line at begun mid next =
     (begun ≡ []) × (mid ≡ at.state) × (bytes : List ℕ) × SpellsInputs line (Command bytes ∷ []) × Step at.state bytes next
 

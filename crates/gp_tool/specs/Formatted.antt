@@ -5,13 +5,13 @@ use Rattle.faults.specs.Faults.{next_count}
 use Rattle.flash_core.specs.declared.flash.Flash.{Ghosts as Flash}
 use Rattle.io_edge.specs.Streams.{SinkState}
 use Rattle.page_journal.specs.declared.pages.TheConstants.{GATE}
-use Rattle.rec_store.specs.Reopens.{Keeps}
+use Rattle.rec_store.specs.Reopens.{KeepsRegistry}
 use Rattle.line_runs.specs.declared.exit.Ending.{Ending}
 use Rattle.line_runs.specs.declared.exit.Ending.TheVariants.{Finished, Failed, WriteFault}
 
 -- power lost leaves the card as it leaves the factory
 abbrev pub IsFactoryCard : {F : Type 0} → Flash F → F → Type 0
-IsFactoryCard device flash = device.tells → Keeps device flash factory_registry
+IsFactoryCard device flash = device.tells → KeepsRegistry device flash factory_registry
 
 -- the pages past the gate are what they were: those of the journal past its gate, and the load pages
 abbrev pub KeepsPastGate : {F : Type 0} → Flash F → F → F → Type 0

@@ -19,20 +19,20 @@ pub record Commands {F : Type 0} (line : List ℕ) (device : Flash F) (old new :
   pub leaves : LeavesOneOf device old new (state.registry ∷ outcome.state.registry ∷ [])
 
 -- what the card is given, and how it stands then; `kept` is the reply in the workspace, and `done` how many commands were answered
-abbrev pub GivesLine : {F : Type 0} → List ℕ → Flash F → CardOver F → CardOver F → ℕ → ℕ → List ℕ → List ℕ → Given → Type 0
-GivesLine line device card card' done done' kept kept' given.NoForm =
+abbrev pub GivesCard : {F : Type 0} → List ℕ → Flash F → CardOver F → CardOver F → ℕ → ℕ → List ℕ → List ℕ → Given → Type 0
+GivesCard line device card card' done done' kept kept' given.NoForm =
     (IsForCard line → ⊥) × (card' ≡ card) × (done' ≡ done) × (kept' ≡ kept)
-GivesLine line device card card' done done' kept kept' given.Nothing =
+GivesCard line device card card' done done' kept kept' given.Nothing =
     SpellsInputs line [] × (card' ≡ card) × (done' ≡ done) × (kept' ≡ kept)
-GivesLine line device card card' done done' kept kept' given.Reset =
+GivesCard line device card card' done done' kept kept' given.Reset =
     SpellsInputs line (Reset ∷ []) × (card'.flash ≡ card.flash) × (done' ≡ done)
     × ((state : State) → CardRepresents device card state → CardRepresents device card' (powered_on state.registry))
-GivesLine line device card card' done done' kept kept' (given.Answered rule) =
+GivesCard line device card card' done done' kept kept' (given.Answered rule) =
     CountsOn done done' 1
     × ((state : State) → CardRepresents device card state
     → (outcome : Outcome) × Commands line device card.flash card'.flash state outcome
     × CardRepresents device card' outcome.state × (kept' ≡ outcome.reply) × (rule ≡ outcome.rule))
-GivesLine line device card card' done done' kept kept' given.FlashFault =
+GivesCard line device card card' done done' kept kept' given.FlashFault =
     (done' ≡ done)
     × ((state : State) → CardRepresents device card state
     → (outcome : Outcome) × Commands line device card.flash card'.flash state outcome

@@ -3,7 +3,7 @@ use Rattle.std.specs.Prelude.{◌≡◌, ◌↔◌, ℕ, List, [], ◌∷◌}
 use Rattle.script_tool.specs.Host.{Host}
 use Rattle.script_tool.specs.HostLines.{HostPlaysAll}
 use Rattle.script_tool.specs.Talk.{Event}
-use Rattle.gp_tool.specs.Effects.{Effect, Place}
+use Rattle.gp_tool.specs.Effects.{LineEffect, LinePlace}
 use Rattle.gp_tool.specs.RunsLines.{RunsLines}
 use Rattle.gp_tool.specs.Script.{AnswersEvents}
 use Rattle.gp_tool.specs.declared.verb.Verb.TheVariants.{Play}
@@ -15,7 +15,7 @@ without_empty ([] ∷ texts) = without_empty texts
 without_empty (text ∷ texts) = text ∷ without_empty texts
 
 -- From one place to another the host plays the lines by these events, and the card answers them.
-pub record PlayedTogether (lines : List (List ℕ)) (at : Place Host) (effect : Effect) (last : Place Host) : Type 0 where
+pub record PlayedTogether (lines : List (List ℕ)) (at : LinePlace Host) (effect : LineEffect) (last : LinePlace Host) : Type 0 where
   pub events : List Event
   pub texts : List (List ℕ)
   pub plays : HostPlaysAll lines at.memory events texts effect.differs last.memory
@@ -25,5 +25,5 @@ pub record PlayedTogether (lines : List (List ℕ)) (at : Place Host) (effect : 
 -- What host and card do together is what the verb `play` does.
 abbrev pub HostAndCard : Type 0
 HostAndCard =
-    (number : ℕ) (lines : List (List ℕ)) (at last : Place Host) (effect : Effect)
+    (number : ℕ) (lines : List (List ℕ)) (at last : LinePlace Host) (effect : LineEffect)
     → PlayedTogether lines at effect last ↔ RunsLines Play number lines at effect last

@@ -4,9 +4,9 @@ use Rattle.card_types.specs.Registry.{Registry}
 use Rattle.flash_core.specs.declared.flash.Flash.{Ghosts as Flash}
 use Rattle.io_edge.specs.declared.sink.Sink.{Ghosts as Sink}
 use Rattle.policy_machine.specs.State.{State}
-use Rattle.rec_store.specs.Reopens.{Keeps}
+use Rattle.rec_store.specs.Reopens.{KeepsRegistry}
 use Rattle.gp_tool.specs.Around.{Around}
-use Rattle.gp_tool.specs.Effects.{Effect, Place}
+use Rattle.gp_tool.specs.Effects.{LineEffect, LinePlace}
 use Rattle.gp_tool.specs.Ends.{Ends}
 use Rattle.line_runs.specs.Outside.{Outside}
 use Rattle.gp_tool.specs.RunsLines.{Memory, RunsLines, start}
@@ -17,9 +17,9 @@ use Rattle.gp_tool.specs.declared.verb.Verb.{Verb}
 use Rattle.gp_tool.specs.declared.workload.Workload.{Workload}
 
 -- what the same lines from one state have in common
-abbrev pub OfLines : (Effect → State → Effect → State → Type 0) → Type 0
+abbrev pub OfLines : (LineEffect → State → LineEffect → State → Type 0) → Type 0
 OfLines holds =
-    (verb : Verb) (first : State) (lines : List (List ℕ)) (effect other : Effect) (last another : Place (Memory verb))
+    (verb : Verb) (first : State) (lines : List (List ℕ)) (effect other : LineEffect) (last another : LinePlace (Memory verb))
     → RunsLines verb 1 lines (start verb first) effect last → RunsLines verb 1 lines (start verb first) other another → holds effect last.state other another.state
 
 -- The same lines from one state write one text.
@@ -58,7 +58,7 @@ OneWritten = OfRuns (λ ending new another other. new.sink.written ≡ other.sin
 -- A call has written a text, and left a registry.
 pub record HasLeft {K F : Type 0} (sink : Sink K) (device : Flash F) (text : List ℕ) (registry : Registry) (old new : Around (Unit {0}) K F) : Type 0 where
   pub written : (sink.state new.sink).written ≡ (sink.state old.sink).written ++ text
-  pub keeps : Keeps device new.flash registry
+  pub keeps : KeepsRegistry device new.flash registry
 
 -- wherever one workload was played to its end, it wrote one text and left one registry, by as many commands
 abbrev pub OneMill : {K F : Type 0} → Sink K → Flash F → Type 0

@@ -8,7 +8,7 @@ use Rattle.policy_machine.specs.Sound.{IsSound}
 use Rattle.policy_machine.specs.State.{State}
 use Rattle.policy_machine.specs.Step.{Outcome}
 use Rattle.policy_machine.specs.Trees.{TreeStays}
-use Rattle.gp_tool.specs.Effects.{Effect, Place}
+use Rattle.gp_tool.specs.Effects.{LineEffect, LinePlace}
 use Rattle.gp_tool.specs.RunsLines.{Memory, RunsLines}
 use Rattle.gp_tool.specs.declared.verb.Verb.{Verb}
 
@@ -24,5 +24,5 @@ pub record RunsApart (first : State) (outcomes : List Outcome) (last : State) : 
 -- The lines of each verb that gives lines to a card have the outcomes of such a run.
 abbrev pub LinesKeepTrees : Type 0
 LinesKeepTrees =
-    (verb : Verb) (number : ℕ) (lines : List (List ℕ)) (at last : Place (Memory verb)) (effect : Effect) → IsSound at.state
+    (verb : Verb) (number : ℕ) (lines : List (List ℕ)) (at last : LinePlace (Memory verb)) (effect : LineEffect) → IsSound at.state
     → RunsLines verb number lines at effect last → RunsApart at.state effect.outcomes last.state

@@ -7,7 +7,7 @@ use Rattle.std.specs.Ordering.{is_lt}
 use Rattle.std.specs.declared.cmp.Ordering.{Ordering}
 use Rattle.card_types.specs.Aid.{aid_order}
 use Rattle.card_types.specs.Registry.{Registry}
-use Rattle.card_types.specs.Represents.{Represents, used}
+use Rattle.card_types.specs.Represents.{Represents, things_in}
 use Rattle.card_types.specs.declared.tables.LoadFile.{LoadFile}
 use Rattle.card_types.specs.declared.tables.Tables.{Tables}
 
@@ -38,4 +38,4 @@ WritesOf text tells tables old new result = (page : ℕ → List ℕ) (said : Re
 abbrev pub ForText : {T X : Type 0} → (T → X) → (T → List ℕ) → (T → Bool) → (X → X → Ordering) → List (Option T) → (List ℕ → Type 0) → Type 0
 ForText {T} {X} named text listed order slots So =
     (xs : List X) (line_of : X → List ℕ) → ((thing : T) → text thing ≡ line_of (named thing))
-    → IsPermutation (map named (filter listed (used slots))) xs → IsStrictlySortedBy order xs → So (flat_map line_of xs)
+    → IsPermutation (map named (filter listed (things_in slots))) xs → IsStrictlySortedBy order xs → So (flat_map line_of xs)

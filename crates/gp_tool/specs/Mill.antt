@@ -15,7 +15,7 @@ use Rattle.policy_machine.specs.Step.{Outcome}
 use Rattle.script_tool.specs.Host.{Host}
 use Rattle.script_tool.specs.Mill.{workload}
 use Rattle.gp_tool.specs.Device.{HasFailed, HasRun, LeavesOneOf, LeftOneOf}
-use Rattle.gp_tool.specs.Effects.{Effect, Place}
+use Rattle.gp_tool.specs.Effects.{LineEffect, LinePlace}
 use Rattle.gp_tool.specs.Flush.{WritesText}
 use Rattle.gp_tool.specs.Formatted.{IsFactoryCard}
 use Rattle.gp_tool.specs.RunsLines.{FailsLine, RunsLines, start}
@@ -74,8 +74,8 @@ summary work tally counter =
 -- The lines of the workload were played from a first state on, and the text is the summary of what they wrote. `made` is the
 -- device at the first state.
 pub record PlaysAll {F : Type 0} (device : Flash F) (work : Workload) (made : F) (first : State) (new : F) (count : ℕ) (text : List ℕ) : Type 0 where
-  pub effect : Effect
-  pub last : Place Host
+  pub effect : LineEffect
+  pub last : LinePlace Host
   pub plays : RunsLines Play 1 (workload work.seed work.rounds) (start Play first) effect last
   pub run : HasRun device made new first count effect.outcomes last.state
   pub counter : List ℕ
@@ -88,8 +88,8 @@ pub record PlaysSome {F : Type 0} (device : Flash F) (work : Workload) (made : F
   pub line : List ℕ
   pub rest : List (List ℕ)
   pub lines_are : workload work.seed work.rounds ≡ given ++ line ∷ rest
-  pub effect : Effect
-  pub last : Place Host
+  pub effect : LineEffect
+  pub last : LinePlace Host
   pub plays : RunsLines Play 1 given (start Play first) effect last
   pub begun : List Outcome
   pub mid : State

@@ -10,7 +10,7 @@ use Rattle.script_tool.specs.Printed.{Nothing, Printed, printed_text, status_pri
 use Rattle.script_tool.specs.Quiet.{is_quiet}
 use Rattle.script_tool.specs.Talk.{Answered, Ends, Event, Goes, Reset, Sends, Talk}
 use Rattle.script_lines.specs.declared.line.ScriptLine.{ScriptLine}
-use Rattle.gp_tool.specs.Effects.{Effect, Place}
+use Rattle.gp_tool.specs.Effects.{LineEffect, LinePlace}
 
 -- From one state of the card the events lead to another: each reply is that of the outcome of its command.
 abbrev pub AnswersEvents : State → List Event → List Outcome → State → Type 0
@@ -26,7 +26,7 @@ texts_of quiet Nothing = []
 texts_of quiet printed = (printed_text quiet printed ++ 10 ∷ []) ∷ []
 
 -- From one place of a host and a card the line leads to another: the host's talk comes to its end, by the outcomes of its commands.
-abbrev pub PlaysScript : List ℕ → Place Host → Effect → Place Host → Type 0
+abbrev pub PlaysScript : List ℕ → LinePlace Host → LineEffect → LinePlace Host → Type 0
 PlaysScript line at effect next =
     (said : ScriptLine) × SaysLine line said × (events : List Event) × (printed : Printed) × (after : Host)
     × Goes (playing at.memory said) events (Ends printed after) × AnswersEvents at.state events effect.outcomes next.state
@@ -38,7 +38,7 @@ abbrev pub IsScript : List ℕ → Type 0
 IsScript line = (said : ScriptLine) × SaysLine line said
 
 -- The device failed in a command of the line, after the outcomes of those before it.
-abbrev pub BreaksScript : List ℕ → Place Host → List Outcome → State → Outcome → Type 0
+abbrev pub BreaksScript : List ℕ → LinePlace Host → List Outcome → State → Outcome → Type 0
 BreaksScript line at begun mid next =
     (said : ScriptLine) × SaysLine line said × (events : List Event) × (command : List ℕ) × (rest : List ℕ → Talk)
     × Goes (playing at.memory said) events (Sends command rest) × AnswersEvents at.state events begun mid × Step mid command next

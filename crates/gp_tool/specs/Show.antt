@@ -62,8 +62,8 @@ object_line object =
     codes "object " ++ encode_lower object.owner ++ codes " " ++ encode_lower (to_be_bytes w16 object.tag) ++ codes " "
     ++ encode_lower object.value ++ 10 ∷ []
 
-abbrev pub shown : Registry → List ℕ
-shown registry =
+abbrev pub registry_text : Registry → List ℕ
+registry_text registry =
     card_line registry.life ++ flat_map entry_line registry.entries ++ flat_map file_line registry.files ++ flat_map key_line registry.keys
     ++ flat_map counter_line registry.counters ++ flat_map object_line registry.objects
 

@@ -10,27 +10,27 @@ use Rattle.io_edge.specs.Streams.{SinkState}
 use Rattle.page_journal.specs.Moments.{Always, LeavesOnly}
 use Rattle.rec_store.specs.Reopens.{Reopens}
 use Rattle.gp_tool.specs.Flush.{WritesText}
-use Rattle.gp_tool.specs.Show.{shown}
+use Rattle.gp_tool.specs.Show.{registry_text}
 use Rattle.line_runs.specs.declared.exit.Ending.{Ending}
 use Rattle.line_runs.specs.declared.exit.Ending.TheVariants.{Finished, Failed}
 use Rattle.gp_tool.specs.declared.view.View.{View}
 use Rattle.gp_tool.specs.declared.view.View.TheVariants as view
 
 -- the text is all that there is to show: the registry, or the lines of all rights in their order
-abbrev pub IsWhole : View → Registry → List ℕ → Type 0
-IsWhole view.Registry registry text = text ≡ shown registry
-IsWhole view.Rights registry text =
+abbrev pub IsWholeView : View → Registry → List ℕ → Type 0
+IsWholeView view.Registry registry text = text ≡ registry_text registry
+IsWholeView view.Rights registry text =
     (rights : List Right) × (end : Option Right) × AreNextRights registry None rights end × AreRights registry rights × (text ≡ flat_map (line_of registry) rights)
 
 -- the text is all of that, or where it is longer than what is written, its front: the lines of rights one after the other from the first on
 abbrev pub IsFront : View → Registry → List ℕ → Type 0
-IsFront view.Registry registry text = text ≡ shown registry
+IsFront view.Registry registry text = text ≡ registry_text registry
 IsFront view.Rights registry text =
     (rights : List Right) × (end : Option Right) × AreNextRights registry None rights end × (text ≡ flat_map (line_of registry) rights)
 
 -- all was written, or a prefix of it
 abbrev pub WritesWhole : View → Type 0 → Registry → SinkState → SinkState → Type 0
-WritesWhole view told registry old new = (text : List ℕ) × IsWhole view registry text × (told → new.written ≡ old.written ++ text)
+WritesWhole view told registry old new = (text : List ℕ) × IsWholeView view registry text × (told → new.written ≡ old.written ++ text)
 
 abbrev pub WritesFront : View → Type 0 → Registry → SinkState → SinkState → Type 0
 WritesFront view told registry old new =

@@ -3,7 +3,7 @@ use Rattle.std.specs.Prelude.{ℕ, Bool, true, false, List, None, Some}
 use Rattle.flash_core.specs.declared.flash.Flash.{Ghosts as Flash}
 use Rattle.script_tool.specs.Kept.{RepresentsHost}
 use Rattle.script_tool.specs.declared.host_state.HostState.{HostState}
-use Rattle.gp_tool.specs.Replay.{Kept}
+use Rattle.gp_tool.specs.Replay.{LastReply}
 use Rattle.gp_tool.specs.RunsLines.{FailsLine, HasForm, Memory, PlaysLine}
 use Rattle.gp_tool.specs.Serve.{IsHeld, ServesLine, Standing}
 use Rattle.gp_tool.specs.declared.card_end.CardEnd.{CardEnd}
@@ -13,18 +13,18 @@ use Rattle.gp_tool.specs.declared.verb.Verb.{Verb}
 use Rattle.gp_tool.specs.declared.verb.Verb.TheVariants.{Run, Why, Replay, Play}
 
 -- the reply in the workspace, where it is there to be compared
-abbrev pub kept_if : Bool → List ℕ → Kept
+abbrev pub kept_if : Bool → List ℕ → LastReply
 kept_if false reply = None
 kept_if true reply = Some reply
 
-abbrev pub kept_in : Workspace → Kept
+abbrev pub kept_in : Workspace → LastReply
 kept_in space = kept_if space.has_reply space.reply.items
 
 -- what the code holds for a verb
 abbrev pub Held : Verb → Type 0
 Held Run = Unit {0}
 Held Why = Unit {0}
-Held Replay = Kept
+Held Replay = LastReply
 Held Play = HostState
 
 abbrev pub held_in : (verb : Verb) → Workspace → Held verb

@@ -6,7 +6,7 @@ use Rattle.policy_machine.specs.State.{State}
 use Rattle.policy_machine.specs.Step.{Outcome, Step}
 use Rattle.script_tool.specs.Host.{Host}
 use Rattle.script_tool.specs.Kept.{RepresentsHost}
-use Rattle.script_tool.specs.Printed.{kind_of, Printed, printed_text, status_printed}
+use Rattle.script_tool.specs.Printed.{kind_played, Printed, printed_text, status_printed}
 use Rattle.script_tool.specs.Play.{playing, remembering}
 use Rattle.script_tool.specs.Quiet.{is_quiet}
 use Rattle.script_tool.specs.Talk.{Ends, Event, Goes, Sends, Talk}
@@ -58,7 +58,7 @@ pub record StepsOver {F : Type 0} (device : Flash F) (old new : Counting F) (hos
   pub plays : PlaysCard device old new state (playing host said) (Ends printed after)
   pub stands : RepresentsHost kept (remembering (status_printed printed) after)
   pub text_is : text ≡ printed_text (is_quiet said) printed
-  pub kind : played ≡ kind_of printed
+  pub kind : played ≡ kind_played printed
 
 -- one or the other, as it is answered
 abbrev pub StepsCard : {F : Type 0} → Flash F → Counting F → Counting F → Host → State → ScriptLine → HostState → List ℕ → Result the_played.Played StepStop → Type 0

@@ -1,12 +1,12 @@
 -- What comes of each task: how it ends, what is left where memory is wanting, and when all is done. `source`, `sink` and
 -- `device` are what contracts see of a source, a sink and a device.
 use Rattle.std.specs.Prelude.{◌≡◌, ◌≢◌, ◌⊎◌, ℕ, []}
-use Rattle.cap_pack.specs.Input.{joining, limited}
+use Rattle.cap_pack.specs.Input.{joining, within_cap_limit}
 use Rattle.faults.specs.Faults.{Rose}
 use Rattle.flash_core.specs.declared.flash.Flash.{Ghosts as Flash}
 use Rattle.io_edge.specs.declared.sink.Sink.{Ghosts as Sink}
 use Rattle.io_edge.specs.declared.source.Source.{Ghosts as Source}
-use Rattle.line_runs.specs.Ends.{IsGoodInput}
+use Rattle.line_runs.specs.Ends.{IsTakableInput}
 use Rattle.line_runs.specs.Outside.{IfFaultless, Outside, outside}
 use Rattle.receipt_desk.specs.Audit.{desk_taker, new_audit}
 use Rattle.gp_tool.specs.Around.{Around, around}
@@ -69,7 +69,7 @@ module _ {S K F : Type 0} (source : Source S) (sink : Sink K) (device : Flash F)
   TaskCompletes (Show view) status old new = HoldsCard device old.flash → IfWritten old new ((status ≡ 0) ⊎ (status ≡ 7))
   TaskCompletes (Mill work) status old new = IfWritten old new ((status ≡ 0) ⊎ (status ≡ 7))
   TaskCompletes Desk status old new =
-      source.tells → IsGoodInput desk_taker new_audit (source.state old.source).left → IfFaultless (streams old) (streams new) ((status ≡ 0) ⊎ (status ≡ 10))
+      source.tells → IsTakableInput desk_taker new_audit (source.state old.source).left → IfFaultless (streams old) (streams new) ((status ≡ 0) ⊎ (status ≡ 10))
   TaskCompletes Cap status old new =
-      source.tells → IsGoodInput joining (limited []) (source.state old.source).left
+      source.tells → IsTakableInput joining (within_cap_limit []) (source.state old.source).left
       → IfFaultless (streams old) (streams new) ((status ≡ 0) ⊎ (status ≡ 11) ⊎ (status ≡ 7))

@@ -5,7 +5,7 @@ use Rattle.std.specs.List.{concat}
 use Rattle.io_edge.specs.Lines.{Reading, IsNextLine, IsWithin, ahead, room}
 use Rattle.io_edge.specs.declared.line.TheConstants.{LINE_LIMIT}
 use Rattle.flash_core.specs.declared.flash.Flash.{Ghosts as Flash}
-use Rattle.gp_tool.specs.Effects.{Place}
+use Rattle.gp_tool.specs.Effects.{LinePlace}
 use Rattle.gp_tool.specs.Ends.{IsBad}
 use Rattle.line_runs.specs.Outside.{Outside, bad_line}
 use Rattle.line_runs.specs.Taken.{HoldsNoLine, IsShortCut, TakesNoMore}
@@ -18,14 +18,14 @@ use Rattle.line_runs.specs.declared.exit.Ending.TheVariants.{Finished, Differs, 
 use Rattle.gp_tool.specs.declared.verb.Verb.{Verb}
 
 -- The next line of what is ahead, within the room, was played from a place.
-pub record TakesLine {F : Type 0} (verb : Verb) (device : Flash F) (reads : Type 0) (number : ℕ) (at at' : Standing F (Held verb)) (place : Place (Memory verb)) (room : ℕ) (ahead after : List ℕ) : Type 0 where
+pub record TakesLine {F : Type 0} (verb : Verb) (device : Flash F) (reads : Type 0) (number : ℕ) (at at' : Standing F (Held verb)) (place : LinePlace (Memory verb)) (room : ℕ) (ahead after : List ℕ) : Type 0 where
   pub line : List ℕ
   pub next : reads → IsNextLine room ahead line after
   pub fits : length line ≤ LINE_LIMIT
   pub played : RunsLine (Means verb) (PlaysLine verb number line) device at at' place
 
 -- The device failed in a command of the next line.
-pub record BreaksNext {F : Type 0} (verb : Verb) (device : Flash F) (reads : Type 0) (at at' : Standing F (Held verb)) (place : Place (Memory verb)) (room : ℕ) (ahead : List ℕ) : Type 0 where
+pub record BreaksNext {F : Type 0} (verb : Verb) (device : Flash F) (reads : Type 0) (at at' : Standing F (Held verb)) (place : LinePlace (Memory verb)) (room : ℕ) (ahead : List ℕ) : Type 0 where
   pub line : List ℕ
   pub next : reads → (after : List ℕ) × IsNextLine room ahead line after
   pub fits : length line ≤ LINE_LIMIT
@@ -38,7 +38,7 @@ pub record GoesOn {F : Type 0} (verb : Verb) (device : Flash F) (reads writes : 
   pub within : IsWithin new
   pub further : old.passed < new.passed
   pub passed : reads → new.passed + length (ahead new now.source.left) ≡ old.passed + length (ahead old before.source.left)
-  pub line : (place : Place (Memory verb)) → StandsAt (Means verb) device at place
+  pub line : (place : LinePlace (Memory verb)) → StandsAt (Means verb) device at place
       → (takes : TakesLine verb device reads (old.number + 1) at at' place (room old) (ahead old before.source.left) (ahead new now.source.left))
       × (old.passed + length takes.line ≤ new.passed)
       × (writes → now.sink.written ≡ before.sink.written ++ concat takes.played.effect.texts)
@@ -62,13 +62,13 @@ EndsWith verb device reads writes at at' old before now Differs = (at' ≡ at) �
 EndsWith verb device reads writes at at' old before now BadLine = (at' ≡ at) × RefusesNext verb reads writes at.held old before now BadLine
 EndsWith verb device reads writes at at' old before now Failed =
     Silent writes before now × TakesFew reads old before now
-    × ((place : Place (Memory verb)) → StandsAt (Means verb) device at place → BreaksNext verb device reads at at' place (room old) (ahead old before.source.left))
+    × ((place : LinePlace (Memory verb)) → StandsAt (Means verb) device at place → BreaksNext verb device reads at at' place (room old) (ahead old before.source.left))
 EndsWith verb device reads writes at at' old before now ReadFault =
     (at' ≡ at) × (reads → HoldsNoLine (ahead old before.source.left) now.source.left) × Silent writes before now × TakesFew reads old before now
 EndsWith verb device reads writes at at' old before now InputTooLong =
     (at' ≡ at) × (reads → IsShortCut (room old) (ahead old before.source.left)) × Silent writes before now × TakesFew reads old before now
 EndsWith verb device reads writes at at' old before now WriteFault =
-    ((place : Place (Memory verb)) → StandsAt (Means verb) device at place
+    ((place : LinePlace (Memory verb)) → StandsAt (Means verb) device at place
     → (after : List ℕ) × (takes : TakesLine verb device reads (old.number + 1) at at' place (room old) (ahead old before.source.left) after)
     × (line : List ℕ) × (takes.played.effect.texts ≡ line ∷ [])
     × (writes → (n : ℕ) × (now.sink.written ≡ before.sink.written ++ take n line))

@@ -41,7 +41,7 @@ RunEnds verb source sink device Stands first ending count old new =
 
 -- A card was served from a first state, up to an ending. What came of the lines that it was given is a run of the policy machine, which
 -- keeps the trees of the security domains that each of its commands spares.
-pub record Serves {S K F : Type 0} (verb : Verb) (source : Source S) (sink : Sink K) (device : Flash F) (Stands : State → Type 0) (first : State) (status count : ℕ) (old new : Around S K F) : Type 0 where
+pub record ServesCard {S K F : Type 0} (verb : Verb) (source : Source S) (sink : Sink K) (device : Flash F) (Stands : State → Type 0) (first : State) (status count : ℕ) (old new : Around S K F) : Type 0 where
   pub ending : Ending
   pub ended : HasEnded sink device ending status (source.state old.source).faults (source.state new.source).faults old new
   pub ends : RunEnds verb source sink device Stands first ending count old new
@@ -51,7 +51,7 @@ pub record Serves {S K F : Type 0} (verb : Verb) (source : Source S) (sink : Sin
 pub record RunsCard {S K F : Type 0} (verb : Verb) (source : Source S) (sink : Sink K) (device : Flash F) (status count : ℕ) (old new : Around S K F) : Type 0 where
   pub registry : Registry
   pub reopens : device.tells → Reopens (device.pages old.flash) registry
-  pub serves : Serves verb source sink device (λ last. Unit {0}) (powered_on registry) status count old new
+  pub serves : ServesCard verb source sink device (λ last. Unit {0}) (powered_on registry) status count old new
 
 -- It was, or it was not powered on, and nothing is read or written.
 abbrev pub EndsRun : {S K F : Type 0} → Verb → Source S → Sink K → Flash F → ℕ → ℕ → Around S K F → Around S K F → Type 0
@@ -69,15 +69,15 @@ abbrev pub IsGoodInput : Verb → List ℕ → Type 0
 IsGoodInput verb input = ((first : State) → AreServable verb 1 (lines input) (start verb first)) × (length input < INPUT_LIMIT)
 
 -- the statuses of a verb where all is done
-abbrev pub IsDone : Verb → ℕ → Type 0
-IsDone Replay status = (status ≡ 0) ⊎ (status ≡ 8)
-IsDone Play status = (status ≡ 0) ⊎ (status ≡ 8)
-IsDone verb status = status ≡ 0
+abbrev pub IsDoneStatus : Verb → ℕ → Type 0
+IsDoneStatus Replay status = (status ≡ 0) ⊎ (status ≡ 8)
+IsDoneStatus Play status = (status ≡ 0) ⊎ (status ≡ 8)
+IsDoneStatus verb status = status ≡ 0
 
 -- What is done where nothing can stop a run, but for want of memory.
 abbrev pub Completes : {S K F : Type 0} → Verb → Source S → Sink K → Flash F → ℕ → Around S K F → Around S K F → Type 0
 Completes verb source sink device status old new =
-    source.tells → device.tells → HoldsCard device old.flash → IsGoodInput verb (source.state old.source).left → NoFault source sink device old new → IsDone verb status ⊎ (status ≡ 7)
+    source.tells → device.tells → HoldsCard device old.flash → IsGoodInput verb (source.state old.source).left → NoFault source sink device old new → IsDoneStatus verb status ⊎ (status ≡ 7)
 
 -- No command is processed, and the device is the card as it leaves the factory unless it failed. Also then no page past the
 -- gate has changed.

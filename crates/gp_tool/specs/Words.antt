@@ -12,23 +12,23 @@ use Rattle.gp_tool.specs.declared.verb.Verb.TheVariants.{Run, Why, Replay, Play}
 use Rattle.gp_tool.specs.declared.view.View.TheVariants.{Registry, Rights}
 
 -- the first word of a task
-abbrev pub word_of : Task → List ℕ
-word_of Format = codes "format"
-word_of (Serve Run) = codes "run"
-word_of (Serve Why) = codes "why"
-word_of (Serve Replay) = codes "replay"
-word_of (Serve Play) = codes "play"
-word_of (Mill work) = codes "mill"
-word_of (Show Registry) = codes "show"
-word_of (Show Rights) = codes "access"
-word_of Desk = codes "desk"
-word_of Cap = codes "cap"
+abbrev pub task_word : Task → List ℕ
+task_word Format = codes "format"
+task_word (Serve Run) = codes "run"
+task_word (Serve Why) = codes "why"
+task_word (Serve Replay) = codes "replay"
+task_word (Serve Play) = codes "play"
+task_word (Mill work) = codes "mill"
+task_word (Show Registry) = codes "show"
+task_word (Show Rights) = codes "access"
+task_word Desk = codes "desk"
+task_word Cap = codes "cap"
 
 -- the words are the task's alone; `mill` has a seed and a number of rounds after it
 abbrev pub AreOf : Task → List (String Global) → Type 0
 AreOf (Mill work) words =
-    (seed rounds : List ℕ) × (map string_bytes words ≡ word_of (Mill work) ∷ seed ∷ rounds ∷ []) × NameWorkload seed rounds work
-AreOf task words = map string_bytes words ≡ word_of task ∷ []
+    (seed rounds : List ℕ) × (map string_bytes words ≡ task_word (Mill work) ∷ seed ∷ rounds ∷ []) × NameWorkload seed rounds work
+AreOf task words = map string_bytes words ≡ task_word task ∷ []
 
 -- the words have a form
 abbrev pub HaveForm : List (String Global) → Type 0

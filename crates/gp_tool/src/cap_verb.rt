@@ -2,7 +2,7 @@
 
 ghost use Rattle.std.specs.Prelude.{◌≡◌, ◌≢◌, ◌⊎◌, ◌++◌, ◌∷◌, [], ℕ, List, take, OnOk, OnErr};
 ghost use Rattle.std.specs.List.{flat_map};
-ghost use Rattle.gp_tool.specs.Prelude.{CapCourse, CapEnds, CapEndsAt, EndCause, HasCause, IfFaultless, IsCap, IsGoodInput, WritesJoined, around, joining, limited, outside, pack_line, pack_of, stop_text};
+ghost use Rattle.gp_tool.specs.Prelude.{CapCourse, CapEnds, CapEndsAt, EndCause, HasCause, IfFaultless, IsCap, IsTakableInput, WritesJoined, around, joining, outside, pack_line, pack_of, stop_text, within_cap_limit};
 ghost use Rattle.line_runs.specs.declared.exit.Ending.TheVariants.{BadLine, InputTooLong};
 
 use crate::run::flush_at_end;
@@ -55,7 +55,7 @@ fn write_stop<K: Sink>(stop: &CapStop, sink: &mut K) -> Result<(), WriteFailed>
 
 // Writes what the bytes that were joined come to.
 fn write_joined<K: Sink>(joined: &Joined, sink: &mut K) -> Ending
-    ensures written { (all : List ℕ) → joined.now ≡ limited all → WritesJoined all K.tells (K.state sink.old).written (K.state sink.new).written result }
+    ensures written { (all : List ℕ) → joined.now ≡ within_cap_limit all → WritesJoined all K.tells (K.state sink.old).written (K.state sink.new).written result }
     ensures flushes { (K.state sink.new).flushes ≡ (K.state sink.old).flushes }
     ensures cause { (reads : ℕ) → EndCause result (around reads (K.state sink.old).faults 0) (around reads (K.state sink.new).faults 0) }
 {
@@ -73,10 +73,10 @@ fn write_joined<K: Sink>(joined: &Joined, sink: &mut K) -> Ending
 
 // Joins the lines of the source, and writes what they come to.
 fn pack<S: Source, K: Sink>(joined: &mut Joined, source: &mut S, sink: &mut K) -> Ending
-    requires none { joined.old ≡ limited [] }
+    requires none { joined.old ≡ within_cap_limit [] }
     ensures ends { (course : CapCourse S.tells (outside (S.state source.old) (K.state sink.old)) (outside (S.state source.new) (K.state sink.new)))
         × CapEndsAt K.tells (outside (S.state source.old) (K.state sink.old)) (outside (S.state source.new) (K.state sink.new)) course result }
-    ensures complete { S.tells → IsGoodInput joining (limited []) (S.state source.old).left → (result ≢ BadLine) × (result ≢ InputTooLong) }
+    ensures complete { S.tells → IsTakableInput joining (within_cap_limit []) (S.state source.old).left → (result ≢ BadLine) × (result ≢ InputTooLong) }
     ensures flushes { (K.state sink.new).flushes ≡ (K.state sink.old).flushes }
     ensures cause { EndCause result (around (S.state source.old).faults (K.state sink.old).faults 0) (around (S.state source.new).faults (K.state sink.new).faults 0) }
 {
@@ -90,7 +90,7 @@ fn pack<S: Source, K: Sink>(joined: &mut Joined, source: &mut S, sink: &mut K) -
 pub fn cap_verb<S: Source, K: Sink>(alloc: Global, source: &mut S, sink: &mut K) -> u8
     ensures memory { result ≡ 7 → (source.new ≡ source.old) × (sink.new ≡ sink.old) }
     ensures ends { result ≢ 7 → CapEnds S.tells K.tells result (outside (S.state source.old) (K.state sink.old)) (outside (S.state source.new) (K.state sink.new)) }
-    ensures complete { S.tells → IsGoodInput joining (limited []) (S.state source.old).left
+    ensures complete { S.tells → IsTakableInput joining (within_cap_limit []) (S.state source.old).left
         → IfFaultless (outside (S.state source.old) (K.state sink.old)) (outside (S.state source.new) (K.state sink.new))
         ((result ≡ 0) ⊎ (result ≡ 11) ⊎ (result ≡ 7)) }
 {

@@ -1,7 +1,7 @@
 //! A command that is given to a card.
 
 ghost use Rattle.std.specs.Prelude.{◌≡◌, ◌+◌, false, true, IfOk, OnErr, OnOk};
-ghost use Rattle.gp_tool.specs.Prelude.{Answers, CardRepresents, HasCause, LeavesEither, Outcome, State, Step, counted, status_bytes};
+ghost use Rattle.gp_tool.specs.Prelude.{Answers, CardRepresents, HasCause, LeavesEither, Outcome, State, Step, bounded_count, status_bytes};
 
 use arrayvec::ArrayVec;
 use card_core::{Card, REPLY_LIMIT};
@@ -20,7 +20,7 @@ pub fn give_command<F: Flash>(
     ensures step { (state : State) → CardRepresents F.Flash card.old state → (outcome : Outcome) × Step state command.now outcome
         × LeavesEither F.Flash card.old.flash card.new.flash state.registry outcome.state.registry
         × IfOk result (Answers F.Flash card.new outcome reply.new.items) }
-    ensures done { OnOk result (done.new ≡ counted (done.old + 1)) }
+    ensures done { OnOk result (done.new ≡ bounded_count (done.old + 1)) }
     ensures same { OnErr result (done.new ≡ done.old) }
     ensures ok { OnOk result (card.new.live ≡ true) }
     ensures failed { OnErr result ((reply.new.items ≡ status_bytes 0x6581) × (card.new.live ≡ false)) }

@@ -1,7 +1,7 @@
 //! The verb `desk`.
 
 ghost use Rattle.std.specs.Prelude.{◌≡◌, ◌⊎◌};
-ghost use Rattle.gp_tool.specs.Prelude.{DeskEnds, IfFaultless, IsGoodInput, desk_taker, new_audit, outside};
+ghost use Rattle.gp_tool.specs.Prelude.{DeskEnds, IfFaultless, IsTakableInput, desk_taker, new_audit, outside};
 
 use crate::run::flush_at_end;
 use io_edge::{Sink, Source};
@@ -11,7 +11,7 @@ use receipt_desk::Audit;
 /// Takes the lines of the source for those of a desk, and answers the status.
 pub fn desk_verb<S: Source, K: Sink>(source: &mut S, sink: &mut K) -> u8
     ensures ends { DeskEnds S.tells K.tells result (outside (S.state source.old) (K.state sink.old)) (outside (S.state source.new) (K.state sink.new)) }
-    ensures complete { S.tells → IsGoodInput desk_taker new_audit (S.state source.old).left
+    ensures complete { S.tells → IsTakableInput desk_taker new_audit (S.state source.old).left
         → IfFaultless (outside (S.state source.old) (K.state sink.old)) (outside (S.state source.new) (K.state sink.new))
         ((result ≡ 0) ⊎ (result ≡ 10)) }
 {

@@ -1,7 +1,7 @@
 //! A line that is given to a card.
 
 ghost use Rattle.std.specs.Prelude.{◌≡◌, ◌≢◌, ◌≤◌, true, length};
-ghost use Rattle.gp_tool.specs.Prelude.{GivesLine, Rose};
+ghost use Rattle.gp_tool.specs.Prelude.{GivesCard, Rose};
 ghost use Rattle.gp_tool.specs.declared.give.Given.TheVariants.{FlashFault};
 
 use crate::command::give_command;
@@ -36,7 +36,7 @@ pub fn give_line<F: Flash>(
 ) -> Given
     requires line { length line.now ≤ LINE_LIMIT }
     requires live { card.old.live ≡ true }
-    ensures given { GivesLine line.now F.Flash card.old card.new done.old done.new space.old.reply.items space.new.reply.items result }
+    ensures given { GivesCard line.now F.Flash card.old card.new done.old done.new space.old.reply.items space.new.reply.items result }
     ensures has_reply { space.new.has_reply ≡ space.old.has_reply }
     ensures live { result ≢ FlashFault → card.new.live ≡ true }
     ensures later { F.faults card.old.flash ≤ F.faults card.new.flash }

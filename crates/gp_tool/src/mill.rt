@@ -1,7 +1,7 @@
 //! The lines of a workload over a card.
 
 ghost use Rattle.std.specs.Prelude.{◌≡◌, ◌≤◌, ◌<◌, ◌+◌, ◌^◌, IfOk, OnOk, OnErr, true, false};
-ghost use Rattle.gp_tool.specs.Prelude.{BreaksLine, BreaksScript, CardRepresents, Host, IsScript, Milled, MillsLine, Place, PlaysSome, RepresentsHost, Rose, State, standing};
+ghost use Rattle.gp_tool.specs.Prelude.{BreaksLine, BreaksScript, CardRepresents, Host, IsScript, LinePlace, Milled, MillsLine, PlaysSome, RepresentsHost, Rose, State, standing};
 
 use crate::card_end::CardEnd;
 use crate::play::{PrintedLine, fill_line, has_printed};
@@ -23,9 +23,9 @@ fn mill_line<F: Flash>(
     requires live { end.old.card.live ≡ true }
     requires form { IsScript line.now }
     requires room { tally.old.success + tally.old.other < 2 ^ 32 }
-    ensures played { (place : Place Host) → CardRepresents F.Flash end.old.card place.state → RepresentsHost player.old place.memory
+    ensures played { (place : LinePlace Host) → CardRepresents F.Flash end.old.card place.state → RepresentsHost player.old place.memory
         → OnOk result (MillsLine F.Flash line.now end.old end.new player.old player.new tally.old tally.new place) }
-    ensures broken { (place : Place Host) → CardRepresents F.Flash end.old.card place.state → RepresentsHost player.old place.memory
+    ensures broken { (place : LinePlace Host) → CardRepresents F.Flash end.old.card place.state → RepresentsHost player.old place.memory
         → OnErr result (BreaksLine (BreaksScript line.now) F.Flash (standing end.old player.old false) (standing end.new player.new false) place) }
     ensures few { tally.new.success + tally.new.other ≤ tally.old.success + tally.old.other + 1 }
     ensures live { OnOk result (end.new.card.live ≡ true) }

@@ -1,7 +1,7 @@
 //! The lines that are written.
 
 ghost use Rattle.std.specs.Prelude.{◌≡◌, ◌≤◌, ◌<◌, ◌*◌, ◌+◌, ◌++◌, [], ℕ, length, take, OnOk, OnErr};
-ghost use Rattle.gp_tool.specs.Prelude.{HasCause, behind_reply, encode_lower, reason};
+ghost use Rattle.gp_tool.specs.Prelude.{HasCause, line_end, encode_lower, reason};
 
 use arrayvec::ArrayVec;
 use card_core::REPLY_LIMIT;
@@ -9,10 +9,10 @@ use io_edge::{Sink, WriteFailed};
 use policy_rules::Rule;
 
 /// How many bytes stand after the digits of a reply, at most: a space, the name of a rule, and a newline.
-const BEHIND_LIMIT: usize = 5;
+const LINE_END_LIMIT: usize = 5;
 
 /// How many bytes a reply's line has, at most.
-pub const REPLY_LINE_LIMIT: usize = 2 * REPLY_LIMIT + BEHIND_LIMIT;
+pub const REPLY_LINE_LIMIT: usize = 2 * REPLY_LIMIT + LINE_END_LIMIT;
 
 // Why a command was refused, or a sign that it was not.
 fn reason_of(rule: Option<Rule>) -> &'static str
@@ -26,8 +26,8 @@ fn reason_of(rule: Option<Rule>) -> &'static str
 }
 
 // What stands after the digits of a reply, with the reason of a refusal where it is to be explained.
-fn behind(explains: bool, rule: Option<Rule>) -> ArrayVec<u8, BEHIND_LIMIT>
-    ensures { result.items ≡ behind_reply explains rule }
+fn spell_end(explains: bool, rule: Option<Rule>) -> ArrayVec<u8, LINE_END_LIMIT>
+    ensures { result.items ≡ line_end explains rule }
 {
     let mut text = ArrayVec::new();
     if explains {
@@ -48,13 +48,13 @@ fn spell_reply(
 ) -> usize
     requires { length reply.now ≤ REPLY_LIMIT }
     ensures within { result ≤ REPLY_LINE_LIMIT }
-    ensures spelled { take result text.new ≡ encode_lower reply.now ++ behind_reply explains rule }
+    ensures spelled { take result text.new ≡ encode_lower reply.now ++ line_end explains rule }
 {
     let digits = 2 * reply.len();
-    let behind = behind(explains, rule);
-    let count = digits + behind.len();
+    let end = spell_end(explains, rule);
+    let count = digits + end.len();
     let _ = hex::encode_to_slice(reply, &mut text[..digits]);
-    text[digits..count].copy_from_slice(&behind);
+    text[digits..count].copy_from_slice(&end);
     count
 }
 
@@ -67,8 +67,8 @@ pub fn write_reply<K: Sink>(
     sink: &mut K,
 ) -> Result<(), WriteFailed>
     requires { length reply.now ≤ REPLY_LIMIT }
-    ensures ok { K.tells → OnOk result ((K.state sink.new).written ≡ (K.state sink.old).written ++ (encode_lower reply.now ++ behind_reply explains rule)) }
-    ensures err { K.tells → OnErr result ((n : ℕ) × ((K.state sink.new).written ≡ (K.state sink.old).written ++ take n (encode_lower reply.now ++ behind_reply explains rule))) }
+    ensures ok { K.tells → OnOk result ((K.state sink.new).written ≡ (K.state sink.old).written ++ (encode_lower reply.now ++ line_end explains rule)) }
+    ensures err { K.tells → OnErr result ((n : ℕ) × ((K.state sink.new).written ≡ (K.state sink.old).written ++ take n (encode_lower reply.now ++ line_end explains rule))) }
     ensures flushes { (K.state sink.new).flushes ≡ (K.state sink.old).flushes }
     ensures cause { HasCause (K.state sink.old).faults (K.state sink.new).faults result }
 {

@@ -1,7 +1,7 @@
 //! The call that serves a card.
 
 ghost use Rattle.std.specs.Prelude.{◌≡◌, ◌≢◌, ◌≤◌, true};
-ghost use Rattle.gp_tool.specs.Prelude.{CardRepresents, IsDone, NoFault, Serves, State, around, powered_on};
+ghost use Rattle.gp_tool.specs.Prelude.{CardRepresents, IsDoneStatus, NoFault, ServesCard, State, around, powered_on};
 ghost use Rattle.gp_tool.specs.Verbs.{IsGoodInput};
 
 use crate::card_end::CardEnd;
@@ -36,7 +36,7 @@ pub fn serve<S: Source, K: Sink, F: Flash>(
     // The status is that of an ending, which says what was read, written and handed on, what the device holds, and for
     // which state the card stands.
     ensures run { (state : State) → CardRepresents F.Flash card state
-        → Serves verb S.Source K.Sink F.Flash (CardRepresents F.Flash result.card) (powered_on state.registry) result.status result.done
+        → ServesCard verb S.Source K.Sink F.Flash (CardRepresents F.Flash result.card) (powered_on state.registry) result.status result.done
         (around source.old sink.old card.flash) (around source.new sink.new result.card.flash) }
 
     // No status of words, of a card that was not powered on, or of want of memory.
@@ -44,7 +44,7 @@ pub fn serve<S: Source, K: Sink, F: Flash>(
 
     // Where each line has a form, the input is short enough and nothing fails, all is done.
     ensures complete { (state : State) → CardRepresents F.Flash card state → S.tells → IsGoodInput verb (S.state source.old).left
-        → NoFault S.Source K.Sink F.Flash (around source.old sink.old card.flash) (around source.new sink.new result.card.flash) → IsDone verb result.status }
+        → NoFault S.Source K.Sink F.Flash (around source.old sink.old card.flash) (around source.new sink.new result.card.flash) → IsDoneStatus verb result.status }
 
     // The card may be served again, unless the device failed.
     ensures live { result.status ≢ 3 → result.card.live ≡ true }

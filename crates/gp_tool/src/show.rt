@@ -5,7 +5,7 @@
 
 ghost use Rattle.std.specs.Prelude.{◌≡◌, ◌≤◌, ◌++◌, ℕ, take, true, OnOk, OnErr, IfErr};
 ghost use Rattle.std.specs.List.{flat_map};
-ghost use Rattle.gp_tool.specs.Prelude.{CardRepresents, HasCause, IsInOrder, LeavesOnly, Reopens, ShowCause, State, Writes, WritesOf, card_line, counter_line, entry_line, key_line, object_line, shown};
+ghost use Rattle.gp_tool.specs.Prelude.{CardRepresents, HasCause, IsInOrder, LeavesOnly, Reopens, ShowCause, State, Writes, WritesOf, card_line, counter_line, entry_line, key_line, object_line, registry_text};
 ghost use Rattle.gp_tool.specs.declared.show.fault.ShowFault.TheVariants.{Write};
 
 mod counters;
@@ -85,9 +85,9 @@ fn show_data<K: Sink>(tables: &Tables, sink: &mut K) -> Result<(), WriteFailed>
 pub fn show<F: Flash, K: Sink>(card: &mut Card<F>, sink: &mut K) -> Result<(), ShowFault>
     requires live { card.old.live ≡ true }
     ensures written { (state : State) → CardRepresents F.Flash card.old state → F.tells → K.tells
-        → OnOk result ((K.state sink.new).written ≡ (K.state sink.old).written ++ shown state.registry) }
+        → OnOk result ((K.state sink.new).written ≡ (K.state sink.old).written ++ registry_text state.registry) }
     ensures part { (state : State) → CardRepresents F.Flash card.old state → F.tells → K.tells
-        → OnErr result ((n : ℕ) × ((K.state sink.new).written ≡ (K.state sink.old).written ++ take n (shown state.registry))) }
+        → OnErr result ((n : ℕ) × ((K.state sink.new).written ≡ (K.state sink.old).written ++ take n (registry_text state.registry))) }
     // Power lost at any moment leaves the registry.
     ensures moments { F.tells → (state : State) → CardRepresents F.Flash card.old state
         → LeavesOnly F.Flash card.old.flash card.new.flash (λ outcome. Reopens outcome state.registry) }

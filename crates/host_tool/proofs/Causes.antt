@@ -7,7 +7,7 @@ use Rattle.io_edge.specs.Streams.{SinkState, SourceState}
 use Rattle.io_edge.specs.declared.line.TheConstants.{INPUT_LIMIT, LINE_LIMIT}
 use Rattle.io_edge.specs.declared.sink.Sink.{Ghosts as Sink}
 use Rattle.io_edge.specs.declared.source.Source.{Ghosts as Source}
-use Rattle.line_runs.specs.Ends.{AreTakable, EndCause, Faults, IsGoodInput, counted}
+use Rattle.line_runs.specs.Ends.{AreTakable, Faults, IsTakableInput, LinesEndCause, fault_counts}
 use Rattle.line_runs.specs.declared.ending.LinesEnd.{LinesEnd}
 use Rattle.line_runs.specs.declared.ending.LinesEnd.TheVariants as lines
 use Rattle.script_tool.specs.Workload.{SaysSome}
@@ -29,18 +29,18 @@ module _ {S K : Type 0} (source : Source S) (sink : Sink K) where
   all_takable [] at good = tt
   all_takable (line ∷ given) at (one, good) = (one.0, one.1, λ next text takes. all_takable given next good)
 
-  pub good_script : (at : Hosting S K) (input : List ℕ) → IsGoodScript input → IsGoodInput (host_taker source sink) at input
+  pub good_script : (at : Hosting S K) (input : List ℕ) → IsGoodScript input → IsTakableInput (host_taker source sink) at input
   good_script at input good = (all_takable (lines input) at good.0, good.1)
 
 -- before the flush
 module _ (tells : Tells) (old mid : Streams) (course : HostCourse tells.script old.script.left mid.script.left) where
-  all_same : (n m : ℕ) → HasExchanged tells old mid course → counted mid.script.faults mid.transcript.faults m ≡ counted old.script.faults old.transcript.faults n
+  all_same : (n m : ℕ) → HasExchanged tells old mid course → fault_counts mid.script.faults mid.transcript.faults m ≡ fault_counts old.script.faults old.transcript.faults n
       → (mid.script.faults ≡ old.script.faults) × (mid.replies.faults ≡ old.replies.faults) × (mid.commands.faults ≡ old.commands.faults) × (mid.transcript.faults ≡ old.transcript.faults)
   all_same n m spoke same =
       (let exchanged = spoke.1 in (ap (λ (f : Faults). f.source) same, exchanged.unread, exchanged.unwritten, ap (λ (f : Faults). f.sink) same))
 
   no_answer : (n m : ℕ) → HasEnded tells old mid course Failed
-      → EndCause lines.Failed (counted old.script.faults old.transcript.faults n) (counted mid.script.faults mid.transcript.faults m) → HostCause Failed old mid
+      → LinesEndCause lines.Failed (fault_counts old.script.faults old.transcript.faults n) (fault_counts mid.script.faults mid.transcript.faults m) → HostCause Failed old mid
   no_answer n m at cause =
       (let asked = at.0 in
       let vain = asked.vain in
@@ -48,7 +48,7 @@ module _ (tells : Tells) (old mid : Streams) (course : HostCourse tells.script o
       (cause.0, vain.unwritten ∙ exchanged.unwritten, cause.1))
 
   pub reached_cause : (end : LinesEnd) (differs : Bool) (why : Option LinkFault) (n m : ℕ) → Reached tells old mid course (host_ending end differs why)
-      → EndCause end (counted old.script.faults old.transcript.faults n) (counted mid.script.faults mid.transcript.faults m) → HostCause (host_ending end differs why) old mid
+      → LinesEndCause end (fault_counts old.script.faults old.transcript.faults n) (fault_counts mid.script.faults mid.transcript.faults m) → HostCause (host_ending end differs why) old mid
   reached_cause lines.Finished false why n m at cause = all_same n m at.2 cause
   reached_cause lines.Finished true why n m at cause = all_same n m at.2 cause
   reached_cause lines.BadLine differs why n m at cause = all_same n m at.1 cause

@@ -8,7 +8,7 @@ use Rattle.line_runs.specs.declared.taker.Taking.{Taking}
 use Rattle.line_runs.specs.declared.taker.Taking.TheVariants.{Taken, Failed}
 use Rattle.script_tool.specs.Host.{Host}
 use Rattle.script_tool.specs.HostLines.{HostPlays, is_difference, text_line}
-use Rattle.script_tool.specs.Printed.{kind_of, Printed, Nothing, printed_text, status_printed}
+use Rattle.script_tool.specs.Printed.{kind_played, Printed, Nothing, printed_text, status_printed}
 use Rattle.script_tool.specs.Kinds.{is_difference_kind}
 use Rattle.script_tool.proofs.AnswerKinds.{differs_as}
 use Rattle.script_tool.specs.Line.{SaysLine}
@@ -31,7 +31,7 @@ use Rattle.host_tool.specs.declared.fault.LinkFault.{LinkFault}
 
 -- what is written of a line, by its kind
 pub text_by_kind : (quiet : Bool) (printed : Printed) (text written : List ℕ) → text ≡ printed_text quiet printed
-    → (kind_of printed ≢ Quiet → written ≡ text ++ 10 ∷ []) → (kind_of printed ≡ Quiet → written ≡ []) → written ≡ text_line quiet printed
+    → (kind_played printed ≢ Quiet → written ≡ text ++ 10 ∷ []) → (kind_played printed ≡ Quiet → written ≡ []) → written ≡ text_line quiet printed
 text_by_kind quiet Nothing text written is some none = none refl
 text_by_kind quiet _ text written is some none = some (λ same. cc same) ∙ ap (λ (t : List ℕ). t ++ 10 ∷ []) is
 

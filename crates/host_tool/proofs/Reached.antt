@@ -8,9 +8,9 @@ use Rattle.faults.specs.Faults.{Rose}
 use Rattle.io_edge.specs.Streams.{SinkState, SourceState}
 use Rattle.io_edge.specs.declared.sink.Sink.{Ghosts as Sink}
 use Rattle.io_edge.specs.declared.source.Source.{Ghosts as Source}
-use Rattle.line_runs.specs.Ends.{Course, EndsAt, FailsAfter, left_at}
+use Rattle.line_runs.specs.Ends.{FailsAfter, LinesCourse, LinesEndAt, left_at}
 use Rattle.line_runs.specs.Outside.{CutsText, Wrote}
-use Rattle.line_runs.specs.Taken.{IsRead}
+use Rattle.line_runs.specs.Taken.{AreAllTaken}
 use Rattle.line_runs.specs.declared.ending.LinesEnd.{LinesEnd}
 use Rattle.line_runs.specs.declared.ending.LinesEnd.TheVariants as lines
 use Rattle.script_tool.specs.Host.{Host, first_host}
@@ -20,7 +20,7 @@ use Rattle.line_runs.specs.Exit.{ending_of}
 use Rattle.host_tool.proofs.Course.{lines_played}
 use Rattle.host_tool.proofs.Sent.{exchanged_none}
 use Rattle.host_tool.specs.Conveyed.{Conveyed, Exchanged, InVain, Unanswered}
-use Rattle.host_tool.specs.Ends.{HasAsked, HasCutCommands, HasCutText, HasEnded, HasExchanged, HostCourse, Next, Streams, Tells, WroteWith, before, flows, script_side, told}
+use Rattle.host_tool.specs.Ends.{HasAsked, HasCutCommands, HasCutText, HasEnded, HasExchanged, HostCourse, Next, Streams, Tells, WroteWith, before, flows, script_side, tells_of}
 use Rattle.host_tool.specs.Exchange.{command_line, sent_by}
 use Rattle.host_tool.specs.Fault.{fault_text}
 use Rattle.host_tool.specs.Link.{sides_of}
@@ -43,7 +43,7 @@ module _ {S K : Type 0} (source : Source S) (sink : Sink K) (reads writes : Type
     (link_is : sides_of source sink first.link ≡ before old) (stands : HostStands first first_host) (alike : first.differs ≡ false)
     (script' : SourceState) (transcript' : SinkState) where
   abbrev tells : Tells
-  tells = told reads source.tells sink.tells writes
+  tells = tells_of reads source.tells sink.tells writes
 
   abbrev new : Streams
   new = flows script' (source.state last.link.replies) (sink.state last.link.commands) transcript'
@@ -56,7 +56,7 @@ module _ {S K : Type 0} (source : Source S) (sink : Sink K) (reads writes : Type
       rw link_is at
       (subst (λ (why : Option LinkFault). Conveyed source.tells sink.tells (sides_of source sink first.link) (sides_of source sink at.link) why events) stands'.sound conveyed)
 
-  module _ (course : Course (host_taker source sink) reads first old.script.left script'.left) where
+  module _ (course : LinesCourse (host_taker source sink) reads first old.script.left script'.left) where
     abbrev played : HostHasPlayed source sink first_host first course.last course.given course.texts
     played = lines_played source sink course.given first_host first course.last course.texts stands course.played
 
@@ -229,7 +229,7 @@ module _ {S K : Type 0} (source : Source S) (sink : Sink K) (reads writes : Type
       text_cut rose cut = cut_at rose fails.fault comes fails.text_is cut
 
     -- the script was played to its end
-    finished_at : (differs : Bool) → played.differs ≡ differs → (reads → IsRead old.script.left course.given course.ahead) → HasExchanged tells old new host_course
+    finished_at : (differs : Bool) → played.differs ≡ differs → (reads → AreAllTaken old.script.left course.given course.ahead) → HasExchanged tells old new host_course
         → WroteWith tells old new host_course [] → Reached tells old new host_course (ending_of differs)
     finished_at false is read spoke wrote = (is, read, spoke, wrote)
     finished_at true is read spoke wrote = (is, read, spoke, wrote)
@@ -237,7 +237,7 @@ module _ {S K : Type 0} (source : Source S) (sink : Sink K) (reads writes : Type
     differs_as_played : last ≡ course.last → played.differs ≡ last.differs
     differs_as_played same = sym (ap (λ (h : Hosting S K). h.differs) same ∙ played.differs_is ∙ ap (λ (d : Bool). d || played.differs) alike)
 
-    pub lines_ended : (end : LinesEnd) (at : EndsAt writes (script_side old) (script_side new) course end) → last ≡ left_at writes (script_side old) (script_side new) course end at
+    pub lines_ended : (end : LinesEnd) (at : LinesEndAt writes (script_side old) (script_side new) course end) → last ≡ left_at writes (script_side old) (script_side new) course end at
         → (end ≡ lines.WriteFault → Rose old.transcript.faults transcript'.faults) → Reached tells old new host_course (host_ending end last.differs last.link.why)
     lines_ended lines.Finished at same rose = finished_at last.differs (differs_as_played same) at.0 (all_exchanged same) (wrote_all at.1)
     lines_ended lines.BadLine at same rose = (at.0, all_exchanged same, at.1)

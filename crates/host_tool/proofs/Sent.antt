@@ -7,7 +7,7 @@ use Rattle.line_runs.specs.Taken.{ComeFirst}
 use Rattle.script_tool.specs.Talk.{Answered, Event, Reset}
 use Rattle.faults.specs.Faults.{Rose}
 use Rattle.host_tool.specs.Asked.{AsksAnswered, WritesCommand}
-use Rattle.host_tool.specs.Conveyed.{Conveyed, CutShort, Exchanged, InVain, IsHeard, IsWhyUnanswered, Unanswered, Sides, awaited}
+use Rattle.host_tool.specs.Conveyed.{Conveyed, CutShort, Exchanged, InVain, IsHeard, IsWhyUnanswered, Unanswered, Sides, replies_ahead}
 use Rattle.host_tool.specs.Exchange.{SpellReplies, SpellsReply, command_line, event_line, reset_line, sent_by}
 use Rattle.host_tool.specs.declared.fault.LinkFault.{LinkFault}
 use Rattle.host_tool.specs.declared.fault.LinkFault.TheVariants.{WriteFault, BadReply, Ended, ReadFault, TooMany}
@@ -53,9 +53,9 @@ module _ (hears tells : Type 0) where
         wrote told ∙ ap (λ (w : List ℕ). w ++ event_line event) (before.written told) ∙ flat_map_more event_line old.commands.written events event
 
     -- a reply more was read
-    room_is : hears → room mid.reading ≡ room_left (room old.reading) (awaited old) (awaited mid)
+    room_is : hears → room mid.reading ≡ room_left (room old.reading) (replies_ahead old) (replies_ahead mid)
     room_is told =
-        let less = shrinks (room old.reading) (awaited old) before.lines (awaited mid) (before.taken told) in
+        let less = shrinks (room old.reading) (replies_ahead old) before.lines (replies_ahead mid) (before.taken told) in
         let passed = before.passed told in
         omega (arith, less, passed)
 
@@ -66,7 +66,7 @@ module _ (hears tells : Type 0) where
       handed_on = λ told some. handed told;
       lines = before.lines;
       spelled = spelled_reset before.lines events before.spelled;
-      taken = λ told. subst (λ (left : List ℕ). ComeFirst (room old.reading) (awaited old) before.lines left) (λ i. ahead (sym reading i) (sym replies i).left) (before.taken told);
+      taken = λ told. subst (λ (left : List ℕ). ComeFirst (room old.reading) (replies_ahead old) before.lines left) (λ i. ahead (sym reading i) (sym replies i).left) (before.taken told);
       number = ap (λ (r : Reading). r.number) reading ∙ before.number;
       passed = λ told. (λ i. (reading i).passed + length (ahead (reading i) (replies i).left)) ∙ before.passed told;
       unread = (λ i. (replies i).faults) ∙ before.unread;
@@ -81,8 +81,8 @@ module _ (hears tells : Type 0) where
       lines = before.lines ++ heard.line ∷ [];
       spelled = spelled_more before.lines events heard.line command reply before.spelled heard.spelled;
       taken = λ told.
-          come_more (room old.reading) (awaited old) before.lines (awaited mid) heard.line (awaited new) (before.taken told)
-          (subst (λ (n : ℕ). IsNextLine n (awaited mid) heard.line (awaited new)) (room_is told) (heard.next told));
+          come_more (room old.reading) (replies_ahead old) before.lines (replies_ahead mid) heard.line (replies_ahead new) (before.taken told)
+          (subst (λ (n : ℕ). IsNextLine n (replies_ahead mid) heard.line (replies_ahead new)) (room_is told) (heard.next told));
       number = (let one = heard.number in let some = before.number in let all = length-append before.lines (heard.line ∷ []) in omega (arith, one, some, all));
       passed = λ told. heard.passed told ∙ before.passed told;
       unread = cause ∙ before.unread;
@@ -104,7 +104,7 @@ module _ (hears tells : Type 0) where
     }
 
     asked_in_vain : (command reply : List ℕ) (fault : LinkFault) → WritesCommand tells mid new command
-        → IsWhyUnanswered hears (mid.reading.number + 1) (room mid.reading) (awaited mid) new.replies.left fault → IsHeard fault mid.replies.faults new.replies.faults
+        → IsWhyUnanswered hears (mid.reading.number + 1) (room mid.reading) (replies_ahead mid) new.replies.left fault → IsHeard fault mid.replies.faults new.replies.faults
         → InVain hears tells old new events command fault
     asked_in_vain command reply fault wrote why heard = record {
       mid = mid;

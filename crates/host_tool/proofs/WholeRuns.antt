@@ -4,7 +4,7 @@ use Rattle.faults.specs.Faults.{Rose}
 use Rattle.io_edge.specs.Streams.{SinkState, SourceState}
 use Rattle.io_edge.specs.declared.sink.Sink.{Ghosts as Sink}
 use Rattle.io_edge.specs.declared.source.Source.{Ghosts as Source}
-use Rattle.line_runs.specs.Ends.{EndCause, Ends, counted}
+use Rattle.line_runs.specs.Ends.{LinesEndCause, LinesEnds, fault_counts}
 use Rattle.line_runs.specs.Outside.{outside}
 use Rattle.line_runs.specs.declared.ending.LinesEnd.{LinesEnd}
 use Rattle.line_runs.specs.declared.ending.LinesEnd.TheVariants as lines
@@ -13,7 +13,7 @@ use Rattle.line_runs.specs.Exit.{exit_status}
 use Rattle.host_tool.proofs.Causes.{flush_keeps, flushed_cause, good_result, reached_cause, script_done}
 use Rattle.host_tool.proofs.Flushed.{flushed_at}
 use Rattle.host_tool.proofs.Reached.{Reached, host_course, lines_ended}
-use Rattle.host_tool.specs.Ends.{HostCause, HostEnds, NoneRefused, Streams, Tells, before, flows, script_side, told}
+use Rattle.host_tool.specs.Ends.{HostCause, HostEnds, NoneRefused, Streams, Tells, before, flows, script_side, tells_of}
 use Rattle.host_tool.specs.Flush.{HostFlushes}
 use Rattle.host_tool.specs.Link.{sides_of}
 use Rattle.host_tool.specs.Ending.{host_ending}
@@ -21,20 +21,20 @@ use Rattle.host_tool.specs.Takes.{Hosting, HostStands, host_taker}
 use Rattle.line_runs.specs.declared.exit.Ending.{Ending}
 
 -- a write that was refused has raised the count
-write_rose : (end : LinesEnd) (a b n c d m : ℕ) → EndCause end (counted a b n) (counted c d m) → end ≡ lines.WriteFault → Rose b d
-write_rose end a b n c d m cause is = (subst (λ (e : LinesEnd). EndCause e (counted a b n) (counted c d m)) is cause).1
+write_rose : (end : LinesEnd) (a b n c d m : ℕ) → LinesEndCause end (fault_counts a b n) (fault_counts c d m) → end ≡ lines.WriteFault → Rose b d
+write_rose end a b n c d m cause is = (subst (λ (e : LinesEnd). LinesEndCause e (fault_counts a b n) (fault_counts c d m)) is cause).1
 
 module _ {S K : Type 0} (source : Source S) (sink : Sink K) (reads writes : Type 0) (old : Streams) (first last : Hosting S K)
     (link_is : sides_of source sink first.link ≡ before old) (stands : HostStands first first_host) (alike : first.differs ≡ false)
     (script : SourceState) (now later : SinkState) (flushes : now.flushes ≡ old.transcript.flushes)
-    (end : LinesEnd) (ends : Ends (host_taker source sink) reads writes first last end (script_side old) (outside script now))
-    (n m : ℕ) (cause : EndCause end (counted old.script.faults old.transcript.faults n) (counted script.faults now.faults m))
+    (end : LinesEnd) (ends : LinesEnds (host_taker source sink) reads writes first last end (script_side old) (outside script now))
+    (n m : ℕ) (cause : LinesEndCause end (fault_counts old.script.faults old.transcript.faults n) (fault_counts script.faults now.faults m))
     (result : Ending) (after : HostFlushes writes (host_ending end last.differs last.link.why) now later result) where
   abbrev new : Streams
   new = flows script (source.state last.link.replies) (sink.state last.link.commands) later
 
   abbrev tells : Tells
-  tells = told reads source.tells sink.tells writes
+  tells = tells_of reads source.tells sink.tells writes
 
   reached : Reached tells old (flows script (source.state last.link.replies) (sink.state last.link.commands) now)
       (host_course source sink reads writes old first last link_is stands alike script now ends.course) (host_ending end last.differs last.link.why)

@@ -17,8 +17,8 @@ pub record Sides : Type 0 where
   pub commands : SinkState
 
 -- the replies that stand ahead
-abbrev pub awaited : Sides → List ℕ
-awaited sides = ahead sides.reading sides.replies.left
+abbrev pub replies_ahead : Sides → List ℕ
+replies_ahead sides = ahead sides.reading sides.replies.left
 
 -- The events went over the streams: each was written and handed on, and the next line of the replies is that to each command.
 pub record Exchanged (hears tells : Type 0) (old new : Sides) (events : List Event) : Type 0 where
@@ -26,9 +26,9 @@ pub record Exchanged (hears tells : Type 0) (old new : Sides) (events : List Eve
   pub handed_on : tells → events ≢ [] → new.commands.handed_on ≡ new.commands.written
   pub lines : List (List ℕ)
   pub spelled : SpellReplies lines events
-  pub taken : hears → ComeFirst (room old.reading) (awaited old) lines (awaited new)
+  pub taken : hears → ComeFirst (room old.reading) (replies_ahead old) lines (replies_ahead new)
   pub number : new.reading.number ≡ old.reading.number + length lines
-  pub passed : hears → new.reading.passed + length (awaited new) ≡ old.reading.passed + length (awaited old)
+  pub passed : hears → new.reading.passed + length (replies_ahead new) ≡ old.reading.passed + length (replies_ahead old)
   pub unread : new.replies.faults ≡ old.replies.faults
   pub unwritten : new.commands.faults ≡ old.commands.faults
 
@@ -61,7 +61,7 @@ pub record InVain (hears tells : Type 0) (old new : Sides) (events : List Event)
   pub before : Exchanged hears tells old mid events
   pub written : tells → new.commands.written ≡ mid.commands.written ++ command_line command
   pub handed_on : tells → new.commands.handed_on ≡ new.commands.written
-  pub why : IsWhyUnanswered hears (mid.reading.number + 1) (room mid.reading) (awaited mid) new.replies.left fault
+  pub why : IsWhyUnanswered hears (mid.reading.number + 1) (room mid.reading) (replies_ahead mid) new.replies.left fault
   pub heard : IsHeard fault mid.replies.faults new.replies.faults
   pub unwritten : new.commands.faults ≡ mid.commands.faults
 

@@ -7,7 +7,7 @@ use Rattle.io_edge.specs.Lines.{IsNextLine, Reading}
 use Rattle.io_edge.specs.Streams.{SinkState, SourceState}
 use Rattle.io_edge.specs.declared.line.TheConstants.{INPUT_LIMIT, LINE_LIMIT}
 use Rattle.line_runs.specs.Outside.{CutsText, Outside, Wrote, bad_line, outside}
-use Rattle.line_runs.specs.Taken.{ComeFirst, HoldsNoLine, IsBadLine, IsRead, IsShortCut, TakesNoMore, room_ahead}
+use Rattle.line_runs.specs.Taken.{AreAllTaken, ComeFirst, HoldsNoLine, IsBadLine, IsShortCut, TakesNoMore, room_ahead}
 use Rattle.script_tool.specs.Host.{Host, first_host}
 use Rattle.script_tool.specs.HostLines.{HostAsks, HostPlays, HostPlaysAll}
 use Rattle.script_tool.specs.Talk.{Event}
@@ -38,8 +38,8 @@ pub record Tells : Type 1 where
   pub commands : Type 0
   pub transcript : Type 0
 
-abbrev pub told : Type 0 → Type 0 → Type 0 → Type 0 → Tells
-told script replies commands transcript = record { script = script; replies = replies; commands = commands; transcript = transcript }
+abbrev pub tells_of : Type 0 → Type 0 → Type 0 → Type 0 → Tells
+tells_of script replies commands transcript = record { script = script; replies = replies; commands = commands; transcript = transcript }
 
 -- the script and the transcript
 abbrev pub script_side : Streams → Outside
@@ -112,8 +112,8 @@ module _ (tells : Tells) (old new : Streams) (course : HostCourse tells.script o
 
   -- What holds at each ending but a refused write.
   abbrev pub HasEnded : Ending → Type 0
-  HasEnded Finished = (course.differs ≡ false) × (tells.script → IsRead old.script.left course.given course.ahead) × HasExchanged × WroteWith []
-  HasEnded Differs = (course.differs ≡ true) × (tells.script → IsRead old.script.left course.given course.ahead) × HasExchanged × WroteWith []
+  HasEnded Finished = (course.differs ≡ false) × (tells.script → AreAllTaken old.script.left course.given course.ahead) × HasExchanged × WroteWith []
+  HasEnded Differs = (course.differs ≡ true) × (tells.script → AreAllTaken old.script.left course.given course.ahead) × HasExchanged × WroteWith []
   HasEnded BadLine = IsBad × HasExchanged × WroteWith (bad_line (length course.given + 1) ∷ [])
   HasEnded Failed = (asked : HasAsked) × WroteWith (fault_text asked.fault ∷ [])
   HasEnded ReadFault = (tells.script → HoldsNoLine course.ahead new.script.left) × HasExchanged × WroteWith []

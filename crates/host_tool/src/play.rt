@@ -1,6 +1,6 @@
 //! A script that is played.
 
-ghost use Rattle.host_tool.specs.Ends.{IsOver, HostEnds, flows, told};
+ghost use Rattle.host_tool.specs.Ends.{IsOver, HostEnds, flows, tells_of};
 ghost use Rattle.host_tool.specs.Flush.{HostFlushes};
 
 use crate::ended::Ended;
@@ -30,11 +30,11 @@ pub fn play_script<C: Source, S: Source, K: Sink, T: Sink>(
     commands: K,
     transcript: &mut T,
 ) -> Ended<S, K>
-    ensures ends { HostEnds (told C.tells S.tells K.tells T.tells) result.status
+    ensures ends { HostEnds (tells_of C.tells S.tells K.tells T.tells) result.status
         (flows (C.state script.old) (S.state replies) (K.state commands) (T.state transcript.old))
         (flows (C.state script.new) (S.state result.replies) (K.state result.commands) (T.state transcript.new)) }
 
-    ensures complete { IsOver (told C.tells S.tells K.tells T.tells) result.status
+    ensures complete { IsOver (tells_of C.tells S.tells K.tells T.tells) result.status
         (flows (C.state script.old) (S.state replies) (K.state commands) (T.state transcript.old))
         (flows (C.state script.new) (S.state result.replies) (K.state result.commands) (T.state transcript.new)) }
 {

@@ -1,7 +1,7 @@
 //! The top call.
 
 ghost use Rattle.std.specs.Prelude.{◌≡◌};
-ghost use Rattle.host_tool.specs.Ends.{IsOver, flows, told};
+ghost use Rattle.host_tool.specs.Ends.{IsOver, flows, tells_of};
 ghost use Rattle.host_tool.specs.Words.{EndsInText, EndsPlay, IsOneWord, host_usage};
 
 use crate::command_line::hand_on;
@@ -41,11 +41,11 @@ pub fn gp_host<C: ScriptFile, S: Source, K: Sink, T: Sink>(
     ensures idle { (IsOneWord words.now → ⊥) → (script.new ≡ script.old) × (result.replies ≡ replies) × (result.commands ≡ commands) }
 
     // One word: the file with that name was not opened, or its script was played up to an ending.
-    ensures played { IsOneWord words.now → EndsPlay (told C.tells S.tells K.tells T.tells) result.status
+    ensures played { IsOneWord words.now → EndsPlay (tells_of C.tells S.tells K.tells T.tells) result.status
         (flows (C.state script.old) (S.state replies) (K.state commands) (T.state transcript.old))
         (flows (C.state script.new) (S.state result.replies) (K.state result.commands) (T.state transcript.new)) }
 
-    ensures complete { IsOneWord words.now → IsOver (told C.tells S.tells K.tells T.tells) result.status
+    ensures complete { IsOneWord words.now → IsOver (tells_of C.tells S.tells K.tells T.tells) result.status
         (flows (C.state script.old) (S.state replies) (K.state commands) (T.state transcript.old))
         (flows (C.state script.new) (S.state result.replies) (K.state result.commands) (T.state transcript.new)) }
 {

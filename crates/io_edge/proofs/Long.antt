@@ -6,7 +6,7 @@ use Rattle.std.proofs.Math.Seq.{take-append-add}
 use Rattle.std.proofs.lemmas.List.{append-nil, take-append-drop, length-take, length-take-le}
 use Rattle.std.proofs.lemmas.List.Elements.{All-append, All-cons, All-nil, All-take}
 use Rattle.std.specs.Str.Lines.{strip_carriage_return}
-use Rattle.io_edge.specs.Lines.{NoNewline, IsWhole, IsLast, IsCut, IsNextText}
+use Rattle.io_edge.specs.Lines.{NoNewline, IsWholeLine, IsLast, IsCut, IsNextText}
 
 -- no newline, or parted at the first one
 data Parted (bytes : List ℕ) : Type 0 where
@@ -14,9 +14,9 @@ data Parted (bytes : List ℕ) : Type 0 where
   parted : (piece rest : List ℕ) → NoNewline piece → bytes ≡ piece ++ 10 ∷ rest → Parted bytes
 
 -- one more byte in front that is no newline
-parted_behind : (b : ℕ) (bytes : List ℕ) → b ≢ 10 → Parted bytes → Parted (b ∷ bytes)
-parted_behind b bytes other (clear none) = clear (All-cons (λ x. x ≢ 10) b bytes other none)
-parted_behind b bytes other (parted piece rest none is) =
+parted_after : (b : ℕ) (bytes : List ℕ) → b ≢ 10 → Parted bytes → Parted (b ∷ bytes)
+parted_after b bytes other (clear none) = clear (All-cons (λ x. x ≢ 10) b bytes other none)
+parted_after b bytes other (parted piece rest none is) =
     parted (b ∷ piece) rest (All-cons (λ x. x ≢ 10) b piece other none) (ap (λ xs. b ∷ xs) is)
 
 part : (bytes : List ℕ) → Parted bytes
@@ -24,7 +24,7 @@ part [] = clear (All-nil (λ x. x ≢ 10))
 part (b ∷ bytes) =
     elim (eqb_tells b 10) [
       | inl here ↦ parted [] bytes (All-nil (λ x. x ≢ 10)) (ap (λ x. x ∷ bytes) here.1)
-      | inr other ↦ parted_behind b bytes other.1 (part bytes)
+      | inr other ↦ parted_after b bytes other.1 (part bytes)
     ]
 
 stripped_len : (is_return : Bool) (piece : List ℕ) → length piece ≤ length (cond is_return (take (length piece - 1) piece) piece) + 1
@@ -84,7 +84,7 @@ whole_long : (room : ℕ) (ahead held more rest : List ℕ) → NoNewline (held 
 whole_long room ahead held more rest none is long fits =
     elim (cases_lt (length (held ++ more)) room) [
       | inl within ↦
-          (let whole : IsWhole room ahead (strip_carriage_return (held ++ more)) rest
+          (let whole : IsWholeLine room ahead (strip_carriage_return (held ++ more)) rest
           = record { piece = held ++ more; no_newline = none; is = is; within = within; stripped = refl } in
           (strip_carriage_return (held ++ more), inl (rest, inl whole), still_long held more long))
       | inr reaches ↦ cut_long room ahead held more (10 ∷ rest) none is long fits reaches

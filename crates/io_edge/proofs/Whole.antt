@@ -2,7 +2,7 @@
 use Rattle.std.proofs.Common.{◌≡◌, ℕ, ◌+◌, ◌<◌, ◌≤◌, List, ◌∷◌, ◌++◌, length, take, drop, slice_index, refl, sym, ap, ◌∙◌, append_assoc, add-one, drop-cons, arith}
 use Rattle.std.proofs.lemmas.List.{take-append-drop, length-take-le}
 use Rattle.std.specs.Str.Lines.{strip_carriage_return}
-use Rattle.io_edge.specs.Lines.{NoNewline, IsWhole}
+use Rattle.io_edge.specs.Lines.{NoNewline, IsWholeLine}
 
 -- the bytes held, parted at the newline
 parted : (at : ℕ) (held : List ℕ) → at < length held → slice_index held at ≡ 10 → held ≡ take at held ++ 10 ∷ drop (at + 1) held
@@ -11,7 +11,7 @@ parted at held within here =
     sym (take-append-drop at held) ∙ ap (λ bytes. take at held ++ bytes) rest
 
 pub whole_line : (room at : ℕ) (held left : List ℕ) → at < length held → NoNewline (take at held) → slice_index held at ≡ 10 → length held ≤ room
-    → IsWhole room (held ++ left) (strip_carriage_return (take at held)) (drop (at + 1) held ++ left)
+    → IsWholeLine room (held ++ left) (strip_carriage_return (take at held)) (drop (at + 1) held ++ left)
 whole_line room at held left within clear here fits = record {
   piece = take at held;
   no_newline = clear;

@@ -30,7 +30,7 @@ abbrev pub room : Reading → ℕ
 room reading = INPUT_LIMIT - reading.passed
 
 -- a line with its newline, within the room
-pub record IsWhole (room : ℕ) (ahead text after : List ℕ) : Type 0 where
+pub record IsWholeLine (room : ℕ) (ahead text after : List ℕ) : Type 0 where
   pub piece : List ℕ
   pub no_newline : NoNewline piece
   pub is : ahead ≡ piece ++ 10 ∷ after
@@ -47,7 +47,7 @@ pub record IsLast (room : ℕ) (ahead text after : List ℕ) : Type 0 where
 
 -- the next line is text, and after follows it
 abbrev pub IsNextLine : ℕ → List ℕ → List ℕ → List ℕ → Type 0
-IsNextLine room ahead text after = IsWhole room ahead text after ⊎ IsLast room ahead text after
+IsNextLine room ahead text after = IsWholeLine room ahead text after ⊎ IsLast room ahead text after
 
 -- the room ends before the next line does: of that line it holds text
 pub record IsCut (room : ℕ) (ahead text : List ℕ) : Type 0 where
@@ -63,11 +63,11 @@ abbrev pub IsNextText : ℕ → List ℕ → List ℕ → Type 0
 IsNextText room ahead text = ((after : List ℕ) × IsNextLine room ahead text after) ⊎ IsCut room ahead text
 
 -- What holds of the bytes ahead where no line is given, and the next one would have this number.
-abbrev pub Stops : ℕ → ℕ → List ℕ → LineStop → Type 0
-Stops room number ahead End = (ahead ≡ []) × (0 < room)
-Stops room number ahead (TooLong n) = (n ≡ number) × ((text : List ℕ) × IsNextText room ahead text × (LINE_LIMIT < length text))
-Stops room number ahead InputTooLong = (text : List ℕ) × IsCut room ahead text × (length text ≤ LINE_LIMIT)
-Stops room number ahead ReadFailed = Unit {0}
+abbrev pub StopsLines : ℕ → ℕ → List ℕ → LineStop → Type 0
+StopsLines room number ahead End = (ahead ≡ []) × (0 < room)
+StopsLines room number ahead (TooLong n) = (n ≡ number) × ((text : List ℕ) × IsNextText room ahead text × (LINE_LIMIT < length text))
+StopsLines room number ahead InputTooLong = (text : List ℕ) × IsCut room ahead text × (length text ≤ LINE_LIMIT)
+StopsLines room number ahead ReadFailed = Unit {0}
 
 -- a line that is too long has this number
 abbrev pub IsNumbered : ℕ → LineStop → Type 0

@@ -55,7 +55,7 @@ fn read_front<S: Source>(source: &mut S, buf: &mut [u8], most: usize) -> Result<
 }
 
 // Reads once after the first `end` bytes, at most `most` bytes.
-fn read_behind<S: Source>(
+fn read_after<S: Source>(
     source: &mut S,
     bytes: &mut [u8; ROOM],
     end: usize,
@@ -94,7 +94,7 @@ fn read_on<S: Source>(
     ensures err_source { S.tells → OnErr result ((S.state source.new).left ≡ (S.state source.old).left) }
     ensures cause { HasCause (S.state source.old).faults (S.state source.new).faults result }
 {
-    let count = read_behind(source, bytes, *end, most)?;
+    let count = read_after(source, bytes, *end, most)?;
     *end += count;
     Ok(count)
 }

@@ -1,7 +1,7 @@
 //! How the next line is cut off the bytes held.
 
 ghost use Rattle.std.specs.Prelude.{◌≡◌, ◌≢◌, ◌<◌, ◌≤◌, ◌+◌, ◌++◌, List, [], ℕ, length, take, IfOk, IfErr, OnOk, OnErr, slice_index};
-ghost use Rattle.io_edge.specs.Lines.{NoNewline, IsWhole, IsLast, IsNextLine, IsCut, IsNumbered, Stops};
+ghost use Rattle.io_edge.specs.Lines.{NoNewline, IsWholeLine, IsLast, IsNextLine, IsCut, IsNumbered, StopsLines};
 ghost use Rattle.io_edge.specs.Ahead.{Finds};
 
 use crate::ahead::{Ahead, stripped_len};
@@ -22,7 +22,7 @@ pub fn cut_whole(
     ensures text { OnOk result (length buffer.new.text ≤ LINE_LIMIT) }
     ensures count { IfOk result (λ n. (0 < n) × (n + length buffer.new.held ≡ length buffer.old.held)) }
     ensures spent { IfOk result (λ n. length buffer.new.text ≤ n) }
-    ensures stop { (left : List ℕ) → IfErr result (Stops room number (buffer.old.held ++ left)) }
+    ensures stop { (left : List ℕ) → IfErr result (StopsLines room number (buffer.old.held ++ left)) }
     ensures numbered { IfErr result (IsNumbered number) }
     ensures known { IfErr result (λ stop. stop ≢ LineStop.ReadFailed) }
     ensures kept { OnErr result (buffer.new.held ≡ buffer.old.held) }
@@ -42,7 +42,7 @@ pub fn cut_last(buffer: &mut Buffer, room: usize, number: u32) -> Result<usize, 
     ensures text { OnOk result (length buffer.new.text ≤ LINE_LIMIT) }
     ensures count { IfOk result (λ n. (0 < n) × (n + length buffer.new.held ≡ length buffer.old.held)) }
     ensures spent { IfOk result (λ n. length buffer.new.text ≤ n) }
-    ensures stop { IfErr result (Stops room number buffer.old.held) }
+    ensures stop { IfErr result (StopsLines room number buffer.old.held) }
     ensures numbered { IfErr result (IsNumbered number) }
     ensures known { IfErr result (λ stop. stop ≢ LineStop.ReadFailed) }
     ensures kept { OnErr result (buffer.new.held ≡ buffer.old.held) }
@@ -61,7 +61,7 @@ pub fn cut_last(buffer: &mut Buffer, room: usize, number: u32) -> Result<usize, 
 // Why no line is given where the limit of the input comes first.
 pub fn stop_at_limit(held: &[u8], room: usize, number: u32) -> LineStop
     requires { Finds room held.now Ahead.Limit }
-    ensures stop { (left : List ℕ) → Stops room number (held.now ++ left) result }
+    ensures stop { (left : List ℕ) → StopsLines room number (held.now ++ left) result }
     ensures numbered { IsNumbered number result }
     ensures known { result ≢ LineStop.ReadFailed }
 {

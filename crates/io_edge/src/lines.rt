@@ -5,7 +5,7 @@ ghost use Rattle.std.specs.Borrow.{sem};
 ghost use Rattle.std.specs.Io.BufRead.{Rests};
 ghost use Rattle.std.specs.Str.Lines.{lines, strip_carriage_return};
 ghost use Rattle.io_edge.specs.Ahead.{Finds};
-ghost use Rattle.io_edge.specs.Lines.{Reading, NoNewline, IsNextLine, IsNumbered, IsWithin, Stops, LineCause, GivesNext, ahead, room};
+ghost use Rattle.io_edge.specs.Lines.{Reading, NoNewline, IsNextLine, IsNumbered, IsWithin, StopsLines, LineCause, GivesNext, ahead, room};
 ghost use Rattle.io_edge.specs.declared.line.TheConstants.{HELD_LIMIT, INPUT_LIMIT, LINE_LIMIT};
 
 use crate::ahead::{Ahead, look_ahead};
@@ -49,7 +49,7 @@ fn advance<S: Source>(
     ensures count { IfOk result (λ n. (0 < n) × (n + length buffer.new.held ≤ room)
         × (S.tells → n + length (buffer.new.held ++ (S.state source.new).left) ≡ length (buffer.old.held ++ (S.state source.old).left))) }
     ensures spent { IfOk result (λ n. length buffer.new.text ≤ n) }
-    ensures stop { S.tells → IfErr result (Stops room number (buffer.old.held ++ (S.state source.old).left)) }
+    ensures stop { S.tells → IfErr result (StopsLines room number (buffer.old.held ++ (S.state source.old).left)) }
     ensures numbered { IfErr result (IsNumbered number) }
     ensures clear { IfErr result (λ stop. stop ≡ LineStop.ReadFailed → NoNewline buffer.new.held) }
     ensures short { IfErr result (λ stop. stop ≡ LineStop.ReadFailed → length (strip_carriage_return buffer.new.held) ≤ LINE_LIMIT) }
@@ -89,7 +89,7 @@ impl Lines {
             GivesNext S.tells self.old new (S.state source.old).left (S.state source.new).left result)) }
 
         // Why there is none, where it is said for the first time.
-        ensures stop { S.tells → self.old.stop ≡ None → IfErr result (Stops (room self.old) (self.old.number + 1) (ahead self.old (S.state source.old).left)) }
+        ensures stop { S.tells → self.old.stop ≡ None → IfErr result (StopsLines (room self.old) (self.old.number + 1) (ahead self.old (S.state source.old).left)) }
         ensures numbered { self.old.stop ≡ None → IfErr result (IsNumbered (self.old.number + 1)) }
         ensures cause { self.old.stop ≡ None → LineCause (S.state source.old).faults (S.state source.new).faults result }
 

@@ -5,7 +5,7 @@ use Rattle.std.specs.List.{list_any}
 use Rattle.std.specs.List.Sorted.{IsPermutation}
 use Rattle.std.proofs.lemmas.Bool.{cases_Bool, or_parts}
 use Rattle.std.proofs.lemmas.List.Sorted.{IsPermutation-sym}
-use Rattle.card_types.specs.Represents.{used, held}
+use Rattle.card_types.specs.Represents.{things_in, thing_in}
 use Rattle.card_types.specs.declared.tables.KeyRec.{KeyRec}
 use Rattle.card_types.proofs.ChangedSlot.{set_shown}
 use Rattle.key_rules.specs.InSlots.{holds_one_of}
@@ -13,12 +13,12 @@ use Rattle.key_rules.specs.Staying.{is_of, staying}
 
 -- a test of slots that is false of a free one, and one of the things in them
 module _ {T : Type 0} (q : Option T → Bool) (p : T → Bool) (free : q None ≡ false) (same : (thing : T) → q (Some thing) ≡ p thing) where
-  pub any_used : (slots : List (Option T)) → list_any q slots ≡ list_any p (used slots)
+  pub any_used : (slots : List (Option T)) → list_any q slots ≡ list_any p (things_in slots)
   any_used [] = refl
   any_used (None ∷ slots) = rw free (any_used slots)
   any_used (Some thing ∷ slots) = rw (same thing, any_used slots) refl
 
-  pub count_used : (slots : List (Option T)) → length (filter q slots) ≡ length (filter p (used slots))
+  pub count_used : (slots : List (Option T)) → length (filter q slots) ≡ length (filter p (things_in slots))
   count_used [] = refl
   count_used (None ∷ slots) = rw free (count_used slots)
   count_used (Some thing ∷ slots) = elim (cases_Bool (p thing)) [
@@ -35,7 +35,7 @@ filter_both p q (thing ∷ things) = elim (cases_Bool (p thing)) [
 
 module _ (owner version : ℕ) where
   -- the keys that stay are the same after one that goes is gone
-  pub stay_after : (slots : List (Option KeyRec)) (slot : ℕ) → holds_one_of owner version (held slots slot) ≡ true
+  pub stay_after : (slots : List (Option KeyRec)) (slot : ℕ) → holds_one_of owner version (thing_in slots slot) ≡ true
       → staying owner version (slice_set slots slot None) ≡ staying owner version slots
   stay_after [] slot goes = refl
   stay_after (None ∷ slots) zero goes = refl
@@ -44,8 +44,8 @@ module _ (owner version : ℕ) where
   stay_after (Some key ∷ slots) (suc slot) goes = rw (stay_after slots slot goes) refl
 
   -- where none goes, all stay
-  pub all_stay : (slots : List (Option KeyRec)) → ((slot : ℕ) → slot < length slots → holds_one_of owner version (held slots slot) ≡ false)
-      → staying owner version slots ≡ used slots
+  pub all_stay : (slots : List (Option KeyRec)) → ((slot : ℕ) → slot < length slots → holds_one_of owner version (thing_in slots slot) ≡ false)
+      → staying owner version slots ≡ things_in slots
   all_stay [] each = refl
   all_stay (None ∷ slots) each = all_stay slots (λ slot lt. each (suc slot) (omega (arith, lt)))
   all_stay (Some key ∷ slots) each =
@@ -54,8 +54,8 @@ module _ (owner version : ℕ) where
 
 module _ {T : Type 0} where
   -- a free slot takes a thing
-  pub put_in : (slots : List (Option T)) (slot : ℕ) (thing : T) → slot < length slots → held slots slot ≡ None
-      → IsPermutation (used (slice_set slots slot (Some thing))) (thing ∷ used slots)
+  pub put_in : (slots : List (Option T)) (slot : ℕ) (thing : T) → slot < length slots → thing_in slots slot ≡ None
+      → IsPermutation (things_in (slice_set slots slot (Some thing))) (thing ∷ things_in slots)
   put_in slots slot thing within free = IsPermutation-sym _ _ (rw free at (set_shown (λ (o : Option T). o) slots slot (Some thing) within))
 
 -- where the domain has no such keys, all stay

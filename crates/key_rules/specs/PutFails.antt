@@ -1,7 +1,7 @@
 -- For the code inside. Why keys are not put.
 use Rattle.std.specs.Prelude.{◌≡◌, ◌≢◌, ◌⊎◌, ℕ, ◌+◌, ◌<◌, ◌==◌, List, Bool, true, false, Option, filter, length}
 use Rattle.std.specs.List.{list_any}
-use Rattle.card_types.specs.Represents.{used}
+use Rattle.card_types.specs.Represents.{things_in}
 use Rattle.card_types.specs.declared.limits.TheConstants.{DOMAIN_KEYS, KEYS}
 use Rattle.card_types.specs.declared.tables.KeyRec.{KeyRec}
 use Rattle.key_rules.specs.Staying.{is_of, staying}
@@ -10,7 +10,7 @@ use Rattle.key_rules.specs.declared.refusal.PutRefusal.TheVariants.{Unknown, Tak
 
 -- the domain has keys with this key version number
 abbrev pub has_version : ℕ → ℕ → List (Option KeyRec) → Bool
-has_version owner version slots = list_any (is_of owner version) (used slots)
+has_version owner version slots = list_any (is_of owner version) (things_in slots)
 
 -- of these keys, those of the domain
 abbrev pub keys_of_owner : ℕ → List KeyRec → List KeyRec

@@ -2,14 +2,14 @@
 -- in (GlobalPlatform Card Specification 2.3.1, 11.2 and 11.8).
 use Rattle.std.specs.Prelude.{◌≡◌, ℕ, ◌++◌, List, [], ◌∷◌, Option, length}
 use Rattle.std.specs.List.Sorted.{IsPermutation}
-use Rattle.card_types.specs.Represents.{used}
+use Rattle.card_types.specs.Represents.{things_in}
 use Rattle.card_types.specs.declared.tables.KeyRec.{KeyRec}
 use Rattle.key_rules.specs.Staying.{staying}
 
 -- there are as many slots as before, and they have the added keys and those that stay
 pub record Puts (owner replaced : ℕ) (added : List KeyRec) (old new : List (Option KeyRec)) : Type 0 where
   pub count : length new ≡ length old
-  pub keys : IsPermutation (used new) (added ++ staying owner replaced old)
+  pub keys : IsPermutation (things_in new) (added ++ staying owner replaced old)
 
 -- they have those that stay alone
 abbrev pub Deletes : ℕ → ℕ → List (Option KeyRec) → List (Option KeyRec) → Type 0

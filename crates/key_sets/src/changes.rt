@@ -2,7 +2,7 @@
 
 ghost use Rattle.std.specs.Prelude.{◌≡◌, ◌<◌, ◌∷◌, length};
 ghost use Rattle.std.specs.List.Sorted.{IsPermutation};
-ghost use Rattle.card_types.specs.Represents.{used, held};
+ghost use Rattle.card_types.specs.Represents.{things_in, thing_in};
 ghost use Rattle.card_types.specs.declared.limits.TheConstants.{KEYS};
 ghost use Rattle.key_rules.specs.InSlots.{holds_one_of};
 ghost use Rattle.key_rules.specs.Staying.{staying};
@@ -13,7 +13,7 @@ use key_rules::is_of;
 use rec_store::RecordKeeper;
 
 fn goes(keys: &[Option<KeyRec>], slot: u8, owner: u8, version: u8) -> bool
-    ensures { result ≡ holds_one_of owner version (held keys.now slot) }
+    ensures { result ≡ holds_one_of owner version (thing_in keys.now slot) }
 {
     match in_slot(keys, slot) {
         Some(key) => is_of(key, owner, version),
@@ -25,7 +25,7 @@ fn goes(keys: &[Option<KeyRec>], slot: u8, owner: u8, version: u8) -> bool
 pub fn free<R: RecordKeeper>(keeper: &mut R, owner: u8, version: u8)
     requires roomy { R.roomy keeper.old }
     ensures count { length (R.slots keeper.new) ≡ length (R.slots keeper.old) }
-    ensures keys { used (R.slots keeper.new) ≡ staying owner version (R.slots keeper.old) }
+    ensures keys { things_in (R.slots keeper.new) ≡ staying owner version (R.slots keeper.old) }
     ensures same_else { R.same_else keeper.old keeper.new }
     ensures roomy { R.roomy keeper.new }
 {
@@ -40,9 +40,9 @@ pub fn free<R: RecordKeeper>(keeper: &mut R, owner: u8, version: u8)
 pub fn put_key<R: RecordKeeper>(keeper: &mut R, key: KeyRec)
     requires roomy { R.roomy keeper.old }
     requires key { IsRoomyKey key }
-    requires room { length (used (R.slots keeper.old)) < KEYS }
+    requires room { length (things_in (R.slots keeper.old)) < KEYS }
     ensures count { length (R.slots keeper.new) ≡ length (R.slots keeper.old) }
-    ensures keys { IsPermutation (used (R.slots keeper.new)) (key ∷ used (R.slots keeper.old)) }
+    ensures keys { IsPermutation (things_in (R.slots keeper.new)) (key ∷ things_in (R.slots keeper.old)) }
     ensures same_else { R.same_else keeper.old keeper.new }
     ensures roomy { R.roomy keeper.new }
 {

@@ -5,7 +5,7 @@ use Rattle.io_edge.proofs.Cuts.{lines_ahead}
 use Rattle.io_edge.specs.Lines.{IsNextLine, IsCut}
 use Rattle.io_edge.specs.declared.line.TheConstants.{INPUT_LIMIT, LINE_LIMIT}
 use Rattle.line_runs.proofs.ComeFirst.{lines_come, shrinks}
-use Rattle.line_runs.specs.Ends.{AreTakable, Ends, IsGoodInput, TakesLines}
+use Rattle.line_runs.specs.Ends.{AreTakable, IsTakableInput, LinesEnds, TakesLines}
 use Rattle.line_runs.specs.Outside.{Outside}
 use Rattle.line_runs.specs.Taken.{ComeFirst, IsBadLine, room_ahead}
 use Rattle.line_runs.specs.Taker.{Taker}
@@ -30,7 +30,7 @@ good_after does (first ∷ given) line more at last texts (next, text, later, on
     good_after does given line more next last later runs (good.2 next text one)
 
 module _ {T : Type 0} (does : Taker T) (first : T) (input : List ℕ) (given texts : List (List ℕ)) (last : T) (ahead : List ℕ)
-    (runs : TakesLines does.takes first given last texts) (reached : ComeFirst INPUT_LIMIT input given ahead) (good : IsGoodInput does first input) where
+    (runs : TakesLines does.takes first given last texts) (reached : ComeFirst INPUT_LIMIT input given ahead) (good : IsTakableInput does first input) where
   -- a line that comes next is good
   good_next : (room : ℕ) (line after : List ℕ) → IsNextLine room ahead line after → does.has_form last line × (length line ≤ LINE_LIMIT)
   good_next room line after next =
@@ -51,22 +51,22 @@ module _ {T : Type 0} (does : Taker T) (first : T) (input : List ℕ) (given tex
       ]
 
 module _ {T : Type 0} (does : Taker T) (reads writes : Type 0) (first last : T) (before now : Outside) where
-  never_refused : Ends does reads writes first last BadLine before now → reads → IsGoodInput does first before.source.left → ⊥
+  never_refused : LinesEnds does reads writes first last BadLine before now → reads → IsTakableInput does first before.source.left → ⊥
   never_refused ends told good =
       let course = ends.course in
       let at = ends.ends in
       never_bad does first before.source.left course.given course.texts course.last course.ahead course.played (course.reached told) good (at.0 told)
 
-  never_limited : Ends does reads writes first last InputTooLong before now → reads → IsGoodInput does first before.source.left → ⊥
+  never_limited : LinesEnds does reads writes first last InputTooLong before now → reads → IsTakableInput does first before.source.left → ⊥
   never_limited ends told good =
       let course = ends.course in
       let at = ends.ends in
       let cut = at.0 told in
       never_cut before.source.left course.given course.ahead cut.0 (course.reached told) good.1 cut.1
 
-  pub is_complete : (end : LinesEnd) → Ends does reads writes first last end before now → reads → IsGoodInput does first before.source.left
+  pub is_complete : (end : LinesEnd) → LinesEnds does reads writes first last end before now → reads → IsTakableInput does first before.source.left
       → (end ≢ BadLine) × (end ≢ InputTooLong)
   is_complete end ends told good = (
-    λ is. never_refused (subst (λ (e : LinesEnd). Ends does reads writes first last e before now) is ends) told good,
-    λ is. never_limited (subst (λ (e : LinesEnd). Ends does reads writes first last e before now) is ends) told good,
+    λ is. never_refused (subst (λ (e : LinesEnd). LinesEnds does reads writes first last e before now) is ends) told good,
+    λ is. never_limited (subst (λ (e : LinesEnd). LinesEnds does reads writes first last e before now) is ends) told good,
   )

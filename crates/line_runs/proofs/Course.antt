@@ -8,11 +8,11 @@ use Rattle.io_edge.specs.Lines.{IsNextLine, Reading, ahead, room}
 use Rattle.io_edge.specs.declared.line.TheConstants.{INPUT_LIMIT, LINE_LIMIT}
 use Rattle.line_runs.proofs.ComeFirst.{come_more, lines_come}
 use Rattle.line_runs.proofs.Passed.{taken_all}
-use Rattle.line_runs.specs.Ends.{Course, Ends, TakerFailsNext, TakesLines}
-use Rattle.line_runs.specs.Turn.{Going, EndsWith, FailsOn, GoesOn, TakesNext, total}
+use Rattle.line_runs.specs.Ends.{LinesCourse, LinesEnds, TakerFailsNext, TakesLines}
+use Rattle.line_runs.specs.Turn.{LinesGoing, FailsOn, LinesEndWith, LinesGoOn, TakesNext, total}
 use Rattle.line_runs.specs.Outside.{Outside, bad_line}
 use Rattle.line_runs.specs.Taken.{ComeFirst, IsBadLine, IsShortCut, TakesNoMore, room_ahead}
-use Rattle.line_runs.specs.Taker.{Taker, Takes}
+use Rattle.line_runs.specs.Taker.{LineStep, Taker}
 use Rattle.line_runs.specs.declared.ending.LinesEnd.{LinesEnd}
 use Rattle.line_runs.specs.declared.ending.LinesEnd.TheVariants.{Finished, BadLine, Failed, ReadFault, WriteFault, InputTooLong}
 
@@ -30,7 +30,7 @@ pub concat_more : (texts : List (List ℕ)) (text : List ℕ) → concat (texts 
 concat_more texts text = concat-append texts (text ∷ []) ∙ ap (λ t. concat texts ++ t) (append-nil text)
 
 -- one line more
-taken_more : {T : Type 0} (takes : Takes T) (first at next : T) (given : List (List ℕ)) (texts : List (List ℕ)) (line text : List ℕ)
+taken_more : {T : Type 0} (takes : LineStep T) (first at next : T) (given : List (List ℕ)) (texts : List (List ℕ)) (line text : List ℕ)
     → TakesLines takes first given at texts → takes at line next text → TakesLines takes first (given ++ line ∷ []) next (texts ++ text ∷ [])
 taken_more {T} takes first at next [] texts line text (same, none) one =
     (next, text, [], subst (λ (t : T). takes t line next text) same one, (refl, refl), ap (λ ts. ts ++ text ∷ []) none)
@@ -39,7 +39,7 @@ taken_more takes first at next (l ∷ given) texts line text (mid, t, more, now,
 
 module _ {T : Type 0} (does : Taker T) (reads writes : Type 0) (first : T) (before : Outside) where
   -- nothing was read yet
-  pub going_first : Going does reads writes first first before before (record { number = 0; passed = 0; held = []; stop = None })
+  pub going_first : LinesGoing does reads writes first first before before (record { number = 0; passed = 0; held = []; stop = None })
   going_first = record {
     given = [];
     texts = [];
@@ -51,7 +51,7 @@ module _ {T : Type 0} (does : Taker T) (reads writes : Type 0) (first : T) (befo
     written = λ _. sym (append-nil before.sink.written);
   }
 
-  module _ (at at' : T) (now later : Outside) (old : Reading) (going : Going does reads writes first at before now old) where
+  module _ (at at' : T) (now later : Outside) (old : Reading) (going : LinesGoing does reads writes first at before now old) where
     -- the room is that after the bytes that were passed
     room_is : reads → room old ≡ room_ahead before.source.left (ahead old now.source.left)
     room_is told =
@@ -74,7 +74,7 @@ module _ {T : Type 0} (does : Taker T) (reads writes : Type 0) (first : T) (befo
 
     -- the course up to here, and with one line more
     course_here : (rest left : List ℕ) → (reads → ComeFirst INPUT_LIMIT before.source.left going.given rest) → (reads → TakesNoMore (length before.source.left) rest left)
-        → Course does reads first before.source.left left
+        → LinesCourse does reads first before.source.left left
     course_here rest left reached taken = record {
       given = going.given;
       texts = going.texts;
@@ -87,7 +87,7 @@ module _ {T : Type 0} (does : Taker T) (reads writes : Type 0) (first : T) (befo
     }
 
     course_more : (text after left : List ℕ) → TakesNext does.takes reads at at' text (room old) (ahead old now.source.left) after
-        → (reads → TakesNoMore (length before.source.left) after left) → Course does reads first before.source.left left
+        → (reads → TakesNoMore (length before.source.left) after left) → LinesCourse does reads first before.source.left left
     course_more text after left next taken = record {
       given = going.given ++ next.line ∷ [];
       texts = going.texts ++ text ∷ [];
@@ -99,7 +99,7 @@ module _ {T : Type 0} (does : Taker T) (reads writes : Type 0) (first : T) (befo
       taken = taken;
     }
 
-    pub going_further : (new : Reading) → GoesOn does reads writes at at' old new now later → Going does reads writes first at' before later new
+    pub going_further : (new : Reading) → LinesGoOn does reads writes at at' old new now later → LinesGoing does reads writes first at' before later new
     going_further new on = record {
       given = going.given ++ on.line.line ∷ [];
       texts = going.texts ++ on.text ∷ [];
@@ -136,11 +136,11 @@ module _ {T : Type 0} (does : Taker T) (reads writes : Type 0) (first : T) (befo
     }
 
     -- the course before a line in which the taker failed
-    course_failed : (Writes : List ℕ → Type 0) → FailsOn does reads at at' old now later Writes → Course does reads first before.source.left later.source.left
+    course_failed : (Writes : List ℕ → Type 0) → FailsOn does reads at at' old now later Writes → LinesCourse does reads first before.source.left later.source.left
     course_failed Writes fails = course_here (ahead old now.source.left) later.source.left going.reached (taken_there (ahead old now.source.left) later.source.left fails.few)
 
-    pub going_ends : (end : LinesEnd) → EndsWith does reads writes at at' old now later end → later.sink.flushes ≡ before.sink.flushes
-        → Ends does reads writes first at' end before later
+    pub going_ends : (end : LinesEnd) → LinesEndWith does reads writes at at' old now later end → later.sink.flushes ≡ before.sink.flushes
+        → LinesEnds does reads writes first at' end before later
     unfolding course_here course_more course_failed fails_next
     going_ends Finished (same, (over, some, none, silent)) flushes =
         let short : reads → length before.source.left < INPUT_LIMIT

@@ -35,5 +35,5 @@ pub record TakesNoMore (total : ℕ) (ahead left : List ℕ) : Type 0 where
   pub within : total ≤ length left + INPUT_LIMIT
 
 -- all lines of the input were given, and it is short enough
-abbrev pub IsRead : List ℕ → List (List ℕ) → List ℕ → Type 0
-IsRead input given ahead = (lines input ≡ given) × (ahead ≡ []) × (length input < INPUT_LIMIT)
+abbrev pub AreAllTaken : List ℕ → List (List ℕ) → List ℕ → Type 0
+AreAllTaken input given ahead = (lines input ≡ given) × (ahead ≡ []) × (length input < INPUT_LIMIT)

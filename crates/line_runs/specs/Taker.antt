@@ -5,18 +5,18 @@ use Rattle.line_runs.specs.declared.taker.Taking.{Taking}
 use Rattle.line_runs.specs.declared.taker.Taking.TheVariants.{Taken, NoForm, Failed}
 
 -- from one state, by a line, to the next one, with what is written
-abbrev pub Takes : Type 0 → Type 1
-Takes T = T → List ℕ → T → List ℕ → Type 0
+abbrev pub LineStep : Type 0 → Type 1
+LineStep T = T → List ℕ → T → List ℕ → Type 0
 
 -- which lines have a form in a state, where such a line leads, how the taker fails in one, and how many faults it has counted
 pub record Taker (T : Type 0) : Type 1 where
   pub has_form : T → List ℕ → Type 0
-  pub takes : Takes T
-  pub fails : Takes T
+  pub takes : LineStep T
+  pub fails : LineStep T
   pub faults : T → ℕ
 
 -- what takes each line that leads anywhere, and never fails
-abbrev pub faultless : {T : Type 0} → Takes T → Taker T
+abbrev pub faultless : {T : Type 0} → LineStep T → Taker T
 faultless {T} takes = record {
   has_form = λ at line. (next : T) × (text : List ℕ) × takes at line next text;
   takes = takes;

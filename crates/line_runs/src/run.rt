@@ -2,9 +2,9 @@
 
 ghost use Rattle.std.specs.Prelude.{◌≡◌, ◌≢◌, ◌++◌, ℕ, take, None, IfNone, IfSome, OnOk, OnErr};
 ghost use Rattle.faults.specs.Faults.{HasCause, Rose};
-ghost use Rattle.line_runs.specs.Ends.{EndCause, Ends, IsGoodInput, counted};
+ghost use Rattle.line_runs.specs.Ends.{IsTakableInput, LinesEndCause, LinesEnds, fault_counts};
 ghost use Rattle.line_runs.specs.Outside.{outside};
-ghost use Rattle.line_runs.specs.Turn.{EndsWith, GoesOn, Refuses, WritesAtFault};
+ghost use Rattle.line_runs.specs.Turn.{LinesEndWith, LinesGoOn, WritesAtFault, WritesBadLine};
 ghost use Rattle.line_runs.specs.declared.ending.LinesEnd.TheVariants.{BadLine, InputTooLong};
 
 use crate::bad_line::write_bad_line;
@@ -14,9 +14,9 @@ use io_edge::{LineStop, Lines, Sink, Source, WriteFailed};
 
 // Writes the number of a line that is malformed or too long.
 fn refuse_line<K: Sink>(number: u32, sink: &mut K) -> LinesEnd
-    ensures refused { Refuses K.tells number (K.state sink.old).written (K.state sink.new).written result }
+    ensures refused { WritesBadLine K.tells number (K.state sink.old).written (K.state sink.new).written result }
     ensures flushes { (K.state sink.new).flushes ≡ (K.state sink.old).flushes }
-    ensures cause { (reads taker : ℕ) → EndCause result (counted reads (K.state sink.old).faults taker) (counted reads (K.state sink.new).faults taker) }
+    ensures cause { (reads taker : ℕ) → LinesEndCause result (fault_counts reads (K.state sink.old).faults taker) (fault_counts reads (K.state sink.new).faults taker) }
 {
     match write_bad_line(number, sink) {
         Ok(()) => LinesEnd::BadLine,
@@ -44,7 +44,7 @@ fn write_last<K: Sink>(text: &Text, sink: &mut K) -> LinesEnd
     ensures written { WritesAtFault K.tells text.now.items (K.state sink.old).written (K.state sink.new).written result }
     ensures flushes { (K.state sink.new).flushes ≡ (K.state sink.old).flushes }
     ensures cause { (reads taker taker' : ℕ) → Rose taker taker'
-        → EndCause result (counted reads (K.state sink.old).faults taker) (counted reads (K.state sink.new).faults taker') }
+        → LinesEndCause result (fault_counts reads (K.state sink.old).faults taker) (fault_counts reads (K.state sink.new).faults taker') }
 {
     match write_text(text, sink) {
         Ok(()) => LinesEnd::Failed,
@@ -61,15 +61,15 @@ fn take_turn<T: LineTaker, S: Source, K: Sink>(
     sink: &mut K,
 ) -> Option<LinesEnd>
     requires stop { lines.old.stop ≡ None }
-    ensures goes_on { IfNone result (GoesOn T.does S.tells K.tells taker.old taker.new lines.old lines.new
+    ensures goes_on { IfNone result (LinesGoOn T.does S.tells K.tells taker.old taker.new lines.old lines.new
         (outside (S.state source.old) (K.state sink.old)) (outside (S.state source.new) (K.state sink.new))) }
-    ensures ends { IfSome result (EndsWith T.does S.tells K.tells taker.old taker.new lines.old
+    ensures ends { IfSome result (LinesEndWith T.does S.tells K.tells taker.old taker.new lines.old
         (outside (S.state source.old) (K.state sink.old)) (outside (S.state source.new) (K.state sink.new))) }
     ensures flushes { (K.state sink.new).flushes ≡ (K.state sink.old).flushes }
-    ensures quiet { IfNone result (counted (S.state source.new).faults (K.state sink.new).faults (T.does.faults taker.new)
-        ≡ counted (S.state source.old).faults (K.state sink.old).faults (T.does.faults taker.old)) }
-    ensures cause { IfSome result (λ end. EndCause end (counted (S.state source.old).faults (K.state sink.old).faults (T.does.faults taker.old))
-        (counted (S.state source.new).faults (K.state sink.new).faults (T.does.faults taker.new))) }
+    ensures quiet { IfNone result (fault_counts (S.state source.new).faults (K.state sink.new).faults (T.does.faults taker.new)
+        ≡ fault_counts (S.state source.old).faults (K.state sink.old).faults (T.does.faults taker.old)) }
+    ensures cause { IfSome result (λ end. LinesEndCause end (fault_counts (S.state source.old).faults (K.state sink.old).faults (T.does.faults taker.old))
+        (fault_counts (S.state source.new).faults (K.state sink.new).faults (T.does.faults taker.new))) }
 {
     match lines.next_line(source) {
         Ok(line) => match taker.take_line(line.text, text) {
@@ -94,14 +94,14 @@ pub fn take_lines<T: LineTaker, S: Source, K: Sink>(
     source: &mut S,
     sink: &mut K,
 ) -> LinesEnd
-    ensures ends { Ends T.does S.tells K.tells taker.old taker.new result
+    ensures ends { LinesEnds T.does S.tells K.tells taker.old taker.new result
         (outside (S.state source.old) (K.state sink.old)) (outside (S.state source.new) (K.state sink.new)) }
 
     // Where each line has a form and the input is short enough, only a fault keeps it from its end.
-    ensures complete { S.tells → IsGoodInput T.does taker.old (S.state source.old).left → (result ≢ BadLine) × (result ≢ InputTooLong) }
+    ensures complete { S.tells → IsTakableInput T.does taker.old (S.state source.old).left → (result ≢ BadLine) × (result ≢ InputTooLong) }
     ensures flushes { (K.state sink.new).flushes ≡ (K.state sink.old).flushes }
-    ensures cause { EndCause result (counted (S.state source.old).faults (K.state sink.old).faults (T.does.faults taker.old))
-        (counted (S.state source.new).faults (K.state sink.new).faults (T.does.faults taker.new)) }
+    ensures cause { LinesEndCause result (fault_counts (S.state source.old).faults (K.state sink.old).faults (T.does.faults taker.old))
+        (fault_counts (S.state source.new).faults (K.state sink.new).faults (T.does.faults taker.new)) }
 {
     let mut lines = Lines::new();
     let mut text = Text::new();

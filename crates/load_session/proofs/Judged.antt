@@ -9,7 +9,7 @@ use Rattle.std.proofs.lemmas.List.Sorted.{sum_by-IsPermutation}
 use Rattle.std.proofs.lemmas.List.Sums.{sum_by-cons}
 use Rattle.bertlv.proofs.LengthLemmas.{length_front}
 use Rattle.card_check.proofs.Counting.{length_of_pages}
-use Rattle.load_session.specs.Prelude.{Block, BlockPasses, BringsBytes, ForEachSaid, HasNoLength, HasNoRoom, HasOtherCount, HasOtherHash, HasPageNumbers, HasPages, HaveHash, IsFed, IsInLoadPages, Registry, Represents, RepresentsLoad, StopsBlock, file_of, pages_in, pages_named, pages_of, pages_used, size_of, used}
+use Rattle.load_session.specs.Prelude.{Block, BlockPasses, BringsBytes, ForEachSaid, HasNoLength, HasNoRoom, HasOtherCount, HasOtherHash, HasPageNumbers, HasPages, HaveHash, IsFed, IsInLoadPages, Registry, Represents, RepresentsLoad, StopsBlock, file_of, pages_in, pages_named, pages_of, pages_used, size_of, things_in}
 use Rattle.card_types.specs.Registry as registry
 use Rattle.card_types.specs.declared.limits.TheConstants.{FILE_LIMIT, LOAD_PAGES}
 use Rattle.card_types.specs.declared.tables.Entry.{Entry}
@@ -108,11 +108,11 @@ module _ (page : ℕ → List ℕ) (whole : HasPages page) (tables : Tables) (sa
         let one = one_brings load.announced block size other bytes more brought brings_more in
         unlike (subst (λ hash. HaveHash (load.bytes ++ more) hash) stands.of.hash (subst (λ (list : List ℕ). HaveHash (load.bytes ++ list) kept.hash.items) one.1 (have last)))
 
-    module _ (roomy : All IsInLoadPages (used tables.files.items)) (arrays : All HasPageNumbers (used tables.files.items)) where
+    module _ (roomy : All IsInLoadPages (things_in tables.files.items)) (arrays : All HasPageNumbers (things_in tables.files.items)) where
       pages_counted : pages_used said ≡ pages_in tables
       pages_counted =
-          sum_by-IsPermutation (λ (file : registry.LoadFile). pages_of (length file.bytes)) (map (file_of page tables.entries.items) (used tables.files.items)) said.files says.files
-          ∙ files_counted page whole tables.entries.items (used tables.files.items) arrays roomy
+          sum_by-IsPermutation (λ (file : registry.LoadFile). pages_of (length file.bytes)) (map (file_of page tables.entries.items) (things_in tables.files.items)) said.files says.files
+          ∙ files_counted page whole tables.entries.items (things_in tables.files.items) arrays roomy
 
       pub no_room : (FILE_LIMIT < size) ⊎ (LOAD_PAGES < pages_in tables + pages_of size) → HasNoRoom said load block
       no_room (inl long) = (size, bytes, brought, inl long)

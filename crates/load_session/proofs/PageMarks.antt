@@ -7,7 +7,7 @@ use Rattle.std.proofs.lemmas.List.{append-nil, map-append, take_more}
 use Rattle.std.proofs.lemmas.List.Elements.{Contains-append_cases, Contains-append_left, Contains-append_right, Contains-push_cases}
 use Rattle.std.proofs.lemmas.List.Folds.{concat-append}
 use Rattle.card_check.proofs.LoadPagesNamed.{all_of_members}
-use Rattle.load_session.specs.Prelude.{HasMarks, IsFree, IsLoadPage, IsPageInUse, all_pages, pages_named, used}
+use Rattle.load_session.specs.Prelude.{HasMarks, IsFree, IsLoadPage, IsPageInUse, all_pages, pages_named, things_in}
 use Rattle.card_types.proofs.Members.{contains_first, contains_later}
 use Rattle.card_types.specs.declared.limits.TheConstants.{LOAD_PAGES}
 use Rattle.card_types.specs.declared.tables.LoadFile.{LoadFile}
@@ -41,7 +41,7 @@ marks_more before pages i marks page within is has =
 module _ (files : List (Option LoadFile)) (i : ℕ) (within : i < length files) where
   pub pages_of_next : (file : LoadFile) → get_or files i None ≡ Some file → all_pages (take (i + 1) files) ≡ all_pages (take i files) ++ pages_named file
   pages_of_next file at =
-      let before = used (take i files) in
+      let before = things_in (take i files) in
       ap (λ (fs : List LoadFile). concat (map pages_named fs)) (used_next files i within file at)
       ∙ ap concat (map-append pages_named before (file ∷ [])) ∙ concat-append (map pages_named before) (pages_named file ∷ [])
       ∙ ap (λ (ps : List ℕ). concat (map pages_named before) ++ ps) (append-nil (pages_named file))
@@ -60,7 +60,7 @@ named_of (first ∷ rest) page there = elim (Contains-append_cases (pages_named 
 module _ (tables : Tables) (taken : List ℕ) (marks : List Bool) (has : HasMarks marks (all_pages tables.files.items ++ taken)) (place : ℕ) (within : place < LOAD_PAGES) where
   pub marked_in_use : slice_index_or marks place false ≡ true → IsPageInUse tables taken (load_page_at place)
   marked_in_use marked = elim (Contains-append_cases (all_pages tables.files.items) taken (load_page_at place) ((has.at place within).0 marked)) [
-    | inl named ↦ inl (named_of (used tables.files.items) (load_page_at place) named)
+    | inl named ↦ inl (named_of (things_in tables.files.items) (load_page_at place) named)
     | inr there ↦ inr there
   ]
 
@@ -68,8 +68,8 @@ module _ (tables : Tables) (taken : List ℕ) (marks : List Bool) (has : HasMark
   unmarked none there = false≢true (sym none ∙ (has.at place within).1 there)
 
   pub unmarked_free : slice_index_or marks place false ≡ false → IsFree tables (load_page_at place)
-  unmarked_free none = all_of_members (λ (file : LoadFile). Contains (pages_named file) (load_page_at place) → ⊥) (used tables.files.items)
-      (λ file there named. unmarked none (Contains-append_left (all_pages tables.files.items) taken (load_page_at place) (named_among (used tables.files.items) file (load_page_at place) there named)))
+  unmarked_free none = all_of_members (λ (file : LoadFile). Contains (pages_named file) (load_page_at place) → ⊥) (things_in tables.files.items)
+      (λ file there named. unmarked none (Contains-append_left (all_pages tables.files.items) taken (load_page_at place) (named_among (things_in tables.files.items) file (load_page_at place) there named)))
 
   pub unmarked_apart : slice_index_or marks place false ≡ false → Contains taken (load_page_at place) → ⊥
   unmarked_apart none there = unmarked none (Contains-append_right (all_pages tables.files.items) taken (load_page_at place) there)

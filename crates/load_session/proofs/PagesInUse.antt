@@ -9,7 +9,7 @@ use Rattle.std.proofs.lemmas.Bool.{cases_lt}
 use Rattle.std.proofs.lemmas.Cmp.{nat_eq_equiv}
 use Rattle.std.proofs.lemmas.Map.Steps.{le-length_from_below}
 use Rattle.std.proofs.lemmas.Map.Views.{list_any-from_Contains}
-use Rattle.load_session.specs.Prelude.{IsPageInUse, pages_in, pages_named, pages_of, used}
+use Rattle.load_session.specs.Prelude.{IsPageInUse, pages_in, pages_named, pages_of, things_in}
 use Rattle.card_types.proofs.Members.{contains_cases, contains_map}
 use Rattle.card_types.specs.declared.limits.TheConstants.{LOAD_PAGES}
 use Rattle.card_types.specs.declared.tables.LoadFile.{LoadFile}
@@ -18,26 +18,26 @@ use Rattle.page_journal.proofs.PageKinds.{IsOnDevice, IsPastJournal, load_page_a
 
 -- one slot more
 module _ {T : Type 0} (slots : List (Option T)) (i : ℕ) (within : i < length slots) where
-  pub used_next : (thing : T) → get_or slots i None ≡ Some thing → used (take (i + 1) slots) ≡ used (take i slots) ++ thing ∷ []
+  pub used_next : (thing : T) → get_or slots i None ≡ Some thing → things_in (take (i + 1) slots) ≡ things_in (take i slots) ++ thing ∷ []
   used_next thing at =
-      ap used (take_more slots i None within ∙ ap (λ (slot : Option T). take i slots ++ slot ∷ []) at) ∙ filter_map-append (λ thing. thing) (take i slots) (Some thing ∷ [])
+      ap things_in (take_more slots i None within ∙ ap (λ (slot : Option T). take i slots ++ slot ∷ []) at) ∙ filter_map-append (λ thing. thing) (take i slots) (Some thing ∷ [])
 
-  pub used_pass : get_or slots i None ≡ None → used (take (i + 1) slots) ≡ used (take i slots)
+  pub used_pass : get_or slots i None ≡ None → things_in (take (i + 1) slots) ≡ things_in (take i slots)
   used_pass at =
-      ap used (take_more slots i None within ∙ ap (λ (slot : Option T). take i slots ++ slot ∷ []) at)
-      ∙ filter_map-append (λ thing. thing) (take i slots) (None ∷ []) ∙ append-nil (used (take i slots))
+      ap things_in (take_more slots i None within ∙ ap (λ (slot : Option T). take i slots ++ slot ∷ []) at)
+      ∙ filter_map-append (λ thing. thing) (take i slots) (None ∷ []) ∙ append-nil (things_in (take i slots))
 
 abbrev pages_used : List LoadFile → ℕ
 pages_used files = sum_by (λ (file : LoadFile). pages_of file.len) files
 
 module _ (slots : List (Option LoadFile)) (i : ℕ) (within : i < length slots) where
-  pub pages_next : (file : LoadFile) → get_or slots i None ≡ Some file → pages_used (used (take (i + 1) slots)) ≡ pages_used (used (take i slots)) + pages_of file.len
+  pub pages_next : (file : LoadFile) → get_or slots i None ≡ Some file → pages_used (things_in (take (i + 1) slots)) ≡ pages_used (things_in (take i slots)) + pages_of file.len
   pages_next file at =
       let one : pages_used (file ∷ []) ≡ pages_of file.len = (let first = sum_by-cons (λ (file : LoadFile). pages_of file.len) file [] in omega (arith, first)) in
-      let both = sum_by-append (λ (file : LoadFile). pages_of file.len) (used (take i slots)) (file ∷ []) in
-      ap pages_used (used_next slots i within file at) ∙ both ∙ ap (λ n. pages_used (used (take i slots)) + n) one
+      let both = sum_by-append (λ (file : LoadFile). pages_of file.len) (things_in (take i slots)) (file ∷ []) in
+      ap pages_used (used_next slots i within file at) ∙ both ∙ ap (λ n. pages_used (things_in (take i slots)) + n) one
 
-  pub pages_pass : get_or slots i None ≡ None → pages_used (used (take (i + 1) slots)) ≡ pages_used (used (take i slots))
+  pub pages_pass : get_or slots i None ≡ None → pages_used (things_in (take (i + 1) slots)) ≡ pages_used (things_in (take i slots))
   pages_pass at = ap pages_used (used_pass slots i within at)
 
 -- the pages that files name, one file after the other
@@ -64,11 +64,11 @@ few_named (first ∷ rest) =
 
 module _ (tables : Tables) (taken : List ℕ) where
   abbrev in_use : List ℕ
-  in_use = named_by (used tables.files.items) ++ taken
+  in_use = named_by (things_in tables.files.items) ++ taken
 
   in_use_has : (page : ℕ) → IsPageInUse tables taken page → Contains in_use page
-  in_use_has page (inl named) = Contains-append_left (named_by (used tables.files.items)) taken page (named_among (used tables.files.items) named.0 page named.1 named.2)
-  in_use_has page (inr there) = Contains-append_right (named_by (used tables.files.items)) taken page there
+  in_use_has page (inl named) = Contains-append_left (named_by (things_in tables.files.items)) taken page (named_among (things_in tables.files.items) named.0 page named.1 named.2)
+  in_use_has page (inr there) = Contains-append_right (named_by (things_in tables.files.items)) taken page there
 
   -- where each load page is in use, there are as many as that
   pub all_in_use : ((page : ℕ) → IsPastJournal page → IsOnDevice page → IsPageInUse tables taken page) → LOAD_PAGES ≤ pages_in tables + length taken
@@ -79,7 +79,7 @@ module _ (tables : Tables) (taken : List ℕ) where
       let is : place_among (load_page_at place) ≡ place = omega arith in
       list_any-from_Contains nat_eq_equiv place from_first (subst (Contains from_first) is there)) in
       let many = le-length_from_below from_first LOAD_PAGES has in
-      omega (arith, many, length-map in_use place_among, length-append (named_by (used tables.files.items)) taken, few_named (used tables.files.items))
+      omega (arith, many, length-map in_use place_among, length-append (named_by (things_in tables.files.items)) taken, few_named (things_in tables.files.items))
 
 -- with one page more
 pub in_use_next : (tables : Tables) (taken : List ℕ) (next : ℕ) → ((page : ℕ) → IsPastJournal page → page < next → IsPageInUse tables taken page) → IsPageInUse tables taken next

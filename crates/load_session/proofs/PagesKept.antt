@@ -12,7 +12,7 @@ use Rattle.std.proofs.lemmas.Map.Keys.{IsDistinct-push}
 use Rattle.std.proofs.lemmas.Map.Views.{Contains-from_any}
 use Rattle.card_check.proofs.Counting.{length_of_pages}
 use Rattle.card_check.proofs.LoadPagesNamed.{are_none}
-use Rattle.load_session.specs.Prelude.{AreOwn, HasPages, IsFree, IsLoadPage, bytes_in, padded, size_of}
+use Rattle.load_session.specs.Prelude.{AreOwn, HasPages, IsFree, IsLoadPage, bytes_in, padded_page, size_of}
 use Rattle.card_types.proofs.Members.{contains_first, contains_later}
 use Rattle.card_types.specs.declared.tables.Tables.{Tables}
 use Rattle.load_session.specs.declared.paged.PagedBytes.{PagedBytes}
@@ -63,12 +63,12 @@ module _ (page : ℕ → List ℕ) (whole : HasPages page) (paged : PagedBytes) 
       take_all (size_of paged) written few ∙ sym (append-nil written) ∙ ap (λ (list : List ℕ). written ++ list) (sym none)
 
   -- what waited is after them, and zeros after that
-  pub all_written : (now : List ℕ) → now ≡ written ++ padded paged.rest.items → take (size_of paged) now ≡ bytes_in page paged
+  pub all_written : (now : List ℕ) → now ≡ written ++ padded_page paged.rest.items → take (size_of paged) now ≡ bytes_in page paged
   all_written now is =
       let size : size_of paged ≡ length written + length paged.rest.items = omega (arith, as_long) in
       ap (take (size_of paged)) is
-      ∙ ap (λ n. take n (written ++ padded paged.rest.items)) size
-      ∙ take-append-add written (padded paged.rest.items) (length paged.rest.items)
+      ∙ ap (λ n. take n (written ++ padded_page paged.rest.items)) size
+      ∙ take-append-add written (padded_page paged.rest.items) (length paged.rest.items)
       ∙ ap (λ (list : List ℕ). written ++ list) (take_at paged.rest.items (replicate (256 - length paged.rest.items) 0) (length paged.rest.items) refl)
 
 -- no pages, and no bytes

@@ -4,7 +4,7 @@ use Rattle.std.specs.Prelude.{All, Contains}
 use Rattle.std.proofs.lemmas.Bool.{cases_eq}
 use Rattle.std.proofs.lemmas.List.Elements.{All-contains}
 use Rattle.card_types.proofs.Members.{contains_map}
-use Rattle.load_session.specs.Prelude.{Contents, IsSpare, Keeps, LeavesOnly, Registry, Reopens, load_page, loaded, numbers, page_written}
+use Rattle.load_session.specs.Prelude.{Contents, IsSpare, KeepsRegistry, LeavesOnly, Registry, Reopens, load_page, numbers, page_written, pages_after}
 use Rattle.flash_core.specs.declared.flash.Flash.{Ghosts as Flash}
 use Rattle.flash_core.specs.declared.page.Page.{Page}
 use Rattle.rec_store.proofs.Leaving.{joined, unmoved}
@@ -17,7 +17,7 @@ LeavesAlone device old new registry = LeavesOnly device old new (λ outcome. Reo
 
 -- where these pages are spare, it is so of each registry that power lost keeps
 abbrev pub IfSpare : {F : Type 0} → Flash F → F → List ℕ → (Registry → Type 0) → Type 0
-IfSpare device flash pages holds = All (IsSpare device flash) pages → (registry : Registry) → Keeps device flash registry → holds registry
+IfSpare device flash pages holds = All (IsSpare device flash) pages → (registry : Registry) → KeepsRegistry device flash registry → holds registry
 
 -- `count` of the pages are written
 pub record AreWritten {F : Type 0} (device : Flash F) (before : Contents F) (writes : List LoadWrite) (count : ℕ) (records : Contents F) : Type 0 where
@@ -25,9 +25,9 @@ pub record AreWritten {F : Type 0} (device : Flash F) (before : Contents F) (wri
   pub staged : records.staged ≡ before.staged
   pub live : records.live ≡ true
   pub none : count ≡ 0 → records ≡ before
-  pub bytes : device.tells → load_page (device.pages records.flash) ≡ loaded (load_page (device.pages before.flash)) (take count writes)
+  pub bytes : device.tells → load_page (device.pages records.flash) ≡ pages_after (load_page (device.pages before.flash)) (take count writes)
   pub moments : device.tells → IfSpare device before.flash (numbers writes) (LeavesAlone device before.flash records.flash)
-  pub keeps : device.tells → IfSpare device before.flash (numbers writes) (Keeps device records.flash)
+  pub keeps : device.tells → IfSpare device before.flash (numbers writes) (KeepsRegistry device records.flash)
   pub spare : device.tells → (page : ℕ) → IsSpare device before.flash page → IsSpare device records.flash page
   pub faults : device.faults records.flash ≡ device.faults before.flash
 
@@ -37,8 +37,8 @@ pub record IsTried {F : Type 0} (device : Flash F) (page : ℕ) (old new : Conte
   pub staged : new.staged ≡ old.staged
   pub live : new.live ≡ true
   pub others : device.tells → (other : ℕ) → other ≢ page → load_page (device.pages new.flash) other ≡ load_page (device.pages old.flash) other
-  pub moments : device.tells → IsSpare device old.flash page → (registry : Registry) → Keeps device old.flash registry → LeavesAlone device old.flash new.flash registry
-  pub keeps : device.tells → IsSpare device old.flash page → (registry : Registry) → Keeps device old.flash registry → Keeps device new.flash registry
+  pub moments : device.tells → IsSpare device old.flash page → (registry : Registry) → KeepsRegistry device old.flash registry → LeavesAlone device old.flash new.flash registry
+  pub keeps : device.tells → IsSpare device old.flash page → (registry : Registry) → KeepsRegistry device old.flash registry → KeepsRegistry device new.flash registry
   pub spare : device.tells → (other : ℕ) → IsSpare device old.flash other → IsSpare device new.flash other
 
 -- what is so of each page is so of that of each write
@@ -67,7 +67,7 @@ module _ {F : Type 0} (device : Flash F) (before : Contents F) (writes : List Lo
         joined device before.flash records.flash new.flash (λ outcome. Reopens outcome registry) (λ outcome. Reopens outcome registry)
         (was.moments told spare registry keeps) (tried.moments told now registry (was.keeps told spare registry keeps)) (λ outcome reopens. reopens)
 
-    pub next_keeps : device.tells → IfSpare device before.flash (numbers writes) (Keeps device new.flash)
+    pub next_keeps : device.tells → IfSpare device before.flash (numbers writes) (KeepsRegistry device new.flash)
     next_keeps told spare registry keeps = tried.keeps told (was.spare told write.number (its_page writes write there (IsSpare device before.flash) spare)) registry (was.keeps told spare registry keeps)
 
     module _ (next : take (count + 1) writes ≡ take count writes ++ write ∷ []) (at : device.tells → load_page (device.pages new.flash) write.number ≡ write.page.bytes)
@@ -78,12 +78,12 @@ module _ {F : Type 0} (device : Flash F) (before : Contents F) (writes : List Lo
         | inr apart ↦ tried.others told n apart ∙ sym (written_apart (load_page (device.pages records.flash)) write n apart)
       ]
 
-      now_loaded : device.tells → load_page (device.pages new.flash) ≡ loaded (load_page (device.pages before.flash)) (take (count + 1) writes)
+      now_loaded : device.tells → load_page (device.pages new.flash) ≡ pages_after (load_page (device.pages before.flash)) (take (count + 1) writes)
       now_loaded told =
           let here : load_page (device.pages new.flash) ≡ page_written (load_page (device.pages records.flash)) write = λ i n. now_here told n i in
           here
           ∙ ap (λ (page : ℕ → List ℕ). page_written page write) (was.bytes told)
-          ∙ sym (ap (loaded (load_page (device.pages before.flash))) next ∙ loaded_more (load_page (device.pages before.flash)) (take count writes) write)
+          ∙ sym (ap (pages_after (load_page (device.pages before.flash))) next ∙ loaded_more (load_page (device.pages before.flash)) (take count writes) write)
 
       pub one_more : AreWritten device before writes (count + 1) new
       one_more = record {

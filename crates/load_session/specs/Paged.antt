@@ -15,8 +15,8 @@ abbrev pub bytes_in : (ℕ → List ℕ) → PagedBytes → List ℕ
 bytes_in page paged = concat (map page paged.pages.items) ++ paged.rest.items
 
 -- bytes with zeros after them, as many as a page has
-abbrev pub padded : List ℕ → List ℕ
-padded bytes = bytes ++ replicate (256 - length bytes) 0
+abbrev pub padded_page : List ℕ → List ℕ
+padded_page bytes = bytes ++ replicate (256 - length bytes) 0
 
 -- the pages are its own, and no page is full that is not written
 pub record IsOpen (tables : Tables) (paged : PagedBytes) : Type 0 where

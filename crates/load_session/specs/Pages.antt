@@ -3,7 +3,7 @@ use Rattle.std.specs.Prelude.{ℕ, ◌⊎◌, List, All, Contains, nat_eq}
 use Rattle.std.specs.List.{IsDistinct, sum_by}
 use Rattle.card_check.specs.IsCard.{pages_named}
 use Rattle.page_journal.specs.Pages.{IsLoadPage}
-use Rattle.card_types.specs.Represents.{used}
+use Rattle.card_types.specs.Represents.{things_in}
 use Rattle.card_types.specs.Well.{pages_of}
 use Rattle.card_types.specs.declared.tables.LoadFile.{LoadFile}
 use Rattle.card_types.specs.declared.tables.Tables.{Tables}
@@ -11,11 +11,11 @@ use Rattle.rec_store.specs.Reopens.{IsFree}
 
 -- how many load pages the Executable Load Files of the tables take
 abbrev pub pages_in : Tables → ℕ
-pages_in tables = sum_by (λ (file : LoadFile). pages_of file.len) (used tables.files.items)
+pages_in tables = sum_by (λ (file : LoadFile). pages_of file.len) (things_in tables.files.items)
 
 -- an Executable Load File of the tables names the page
 abbrev pub IsPageNamed : Tables → ℕ → Type 0
-IsPageNamed tables page = (file : LoadFile) × Contains (used tables.files.items) file × Contains (pages_named file) page
+IsPageNamed tables page = (file : LoadFile) × Contains (things_in tables.files.items) file × Contains (pages_named file) page
 
 -- it does, or the page is one of these
 abbrev pub IsPageInUse : Tables → List ℕ → ℕ → Type 0

@@ -36,13 +36,13 @@ pub record IsOfLoad (tables : Tables) (kept : LoadSession) (load : volatile.Load
   pub blocks : kept.blocks ≡ load.blocks
 
 -- a block may come: the pages are the session's own, and each that is full is written
-abbrev pub IsReady : Tables → LoadSession → Type 0
-IsReady tables kept = IsOpen tables kept.paged
+abbrev pub IsReadyForBlock : Tables → LoadSession → Type 0
+IsReadyForBlock tables kept = IsOpen tables kept.paged
 
 -- before the last block the bytes are in load pages, which hold these lists, and the last ones in memory
 pub record RepresentsLoad (page : ℕ → List ℕ) (tables : Tables) (kept : LoadSession) (load : volatile.LoadSession) : Type 0 where
   pub of : IsOfLoad tables kept load
-  pub ready : IsReady tables kept
+  pub ready : IsReadyForBlock tables kept
   pub bytes : bytes_in page kept.paged ≡ load.bytes
   pub fed : IsFed kept.hash.items kept.hasher load.bytes
 
@@ -64,7 +64,7 @@ pub record RepresentsWhole (page : ℕ → List ℕ) (tables : Tables) (kept : L
 
 -- with a block that was the last one, or was not
 abbrev pub IsAfterBlock : Bool → Tables → LoadSession → Type 0
-IsAfterBlock false tables kept = IsReady tables kept
+IsAfterBlock false tables kept = IsReadyForBlock tables kept
 IsAfterBlock true tables kept = IsWholeFile tables kept
 
 abbrev pub RepresentsAfter : Bool → (ℕ → List ℕ) → Tables → LoadSession → volatile.LoadSession → Type 0

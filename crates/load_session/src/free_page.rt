@@ -1,7 +1,7 @@
 //! The lowest load page that is free.
 
 ghost use Rattle.std.specs.Prelude.{◌≡◌, ◌+◌, ◌<◌, ◌≤◌, ◌++◌, ◌∷◌, ℕ, List, [], All, Contains, length};
-ghost use Rattle.load_session.specs.Prelude.{AreRoomy, HasMarks, HasPageNumbers, IsFree, IsLoadPage, IsPageInUse, all_pages, pages_in, pages_named, pages_of, used};
+ghost use Rattle.load_session.specs.Prelude.{AreRoomy, HasMarks, HasPageNumbers, IsFree, IsLoadPage, IsPageInUse, all_pages, pages_in, pages_named, pages_of, things_in};
 ghost use Rattle.card_types.specs.declared.limits.TheConstants.{FILE_LIMIT, LOAD_PAGES};
 ghost use Rattle.page_journal.specs.declared.pages.TheConstants.{FIRST_LOAD_PAGE};
 
@@ -67,7 +67,7 @@ pub(crate) fn count_pages(tables: &Tables) -> usize
     requires { AreRoomy tables.now }
     ensures value { result ≡ pages_in tables.now }
     ensures few { result ≤ 4096 }
-    ensures arrays { All HasPageNumbers (used tables.now.files.items) }
+    ensures arrays { All HasPageNumbers (things_in tables.now.files.items) }
 {
     let mut count = 0;
     for slot in &tables.files {

@@ -1,7 +1,7 @@
 //! Whether a block is taken (GlobalPlatform Card Specification 2.3.1, 11.6.2).
 
 ghost use Rattle.std.specs.Prelude.{◌≡◌, ◌≢◌, ◌↔◌, ◌⊎◌, ◌+◌, ◌<◌, ◌≤◌, ℕ, List, Bool, All, false, true, Err, IfErr, IfNone, IfOk, IfSome, drop, length};
-ghost use Rattle.load_session.specs.Prelude.{AreRoomy, BlockPasses, BringsBytes, ForEachSaid, HasPageNumbers, IsBlockTaken, StopsBlock, pages_in, pages_of, size_of, used};
+ghost use Rattle.load_session.specs.Prelude.{AreRoomy, BlockPasses, BringsBytes, ForEachSaid, HasPageNumbers, IsBlockTaken, StopsBlock, pages_in, pages_of, size_of, things_in};
 
 use crate::block::{BlockStop, Taken, first_block};
 use crate::free_page::count_pages;
@@ -74,7 +74,7 @@ fn has_room(tables: &Tables, size: u16) -> bool
     requires { AreRoomy tables.now }
     ensures yes { result ≡ true → (size ≤ FILE_LIMIT) × (pages_in tables.now + pages_of size ≤ LOAD_PAGES) }
     ensures no { result ≡ false → (FILE_LIMIT < size) ⊎ (LOAD_PAGES < pages_in tables.now + pages_of size) }
-    ensures arrays { All HasPageNumbers (used tables.now.files.items) }
+    ensures arrays { All HasPageNumbers (things_in tables.now.files.items) }
 {
     let size = usize::from(size);
     let in_use = count_pages(tables);

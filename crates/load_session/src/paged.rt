@@ -2,7 +2,7 @@
 
 ghost use Rattle.std.specs.Prelude.{◌≡◌, ◌+◌, ◌<◌, ◌≤◌, ◌++◌, ℕ, [], List, length, map, take};
 ghost use Rattle.std.specs.List.{concat};
-ghost use Rattle.load_session.specs.Prelude.{AreOwn, AreRoomy, AreTaken, HasLoadRoom, HasPages, IsOpen, bytes_in, loaded, padded, pages_in, pages_of, size_of};
+ghost use Rattle.load_session.specs.Prelude.{AreOwn, AreRoomy, AreTaken, HasLoadRoom, HasPages, IsOpen, bytes_in, padded_page, pages_after, pages_in, pages_of, size_of};
 ghost use Rattle.card_types.specs.declared.limits.TheConstants.{LOAD_PAGES};
 
 use crate::free_page::free_page;
@@ -52,7 +52,7 @@ impl PagedBytes {
         requires none { writes.old.items ≡ [] }
         ensures ready { IsOpen tables.now self.new }
         ensures size { size_of self.new ≡ size_of self.old + length bytes.now }
-        ensures bytes { (page : ℕ → List ℕ) → bytes_in (loaded page writes.new.items) self.new ≡ bytes_in page self.old ++ bytes.now }
+        ensures bytes { (page : ℕ → List ℕ) → bytes_in (pages_after page writes.new.items) self.new ≡ bytes_in page self.old ++ bytes.now }
         ensures taken { AreTaken tables.now self.old.pages.items self.new.pages.items writes.new.items }
         ensures few { length writes.new.items ≤ 1 }
     {
@@ -75,8 +75,8 @@ impl PagedBytes {
         requires few { length writes.old.items ≤ 1 }
         ensures own { AreOwn tables.now self.new.pages.items }
         ensures whole { length self.new.pages.items ≡ pages_of (size_of self.old) }
-        ensures bytes { (page : ℕ → List ℕ) → HasPages (loaded page writes.old.items)
-            → take (size_of self.old) (concat (map (loaded page writes.new.items) self.new.pages.items)) ≡ bytes_in (loaded page writes.old.items) self.old }
+        ensures bytes { (page : ℕ → List ℕ) → HasPages (pages_after page writes.old.items)
+            → take (size_of self.old) (concat (map (pages_after page writes.new.items) self.new.pages.items)) ≡ bytes_in (pages_after page writes.old.items) self.old }
         ensures taken { (taken : List ℕ) → AreTaken tables.now taken self.old.pages.items writes.old.items
             → AreTaken tables.now taken self.new.pages.items writes.new.items }
     {
@@ -97,8 +97,8 @@ impl PagedBytes {
         ensures pages { length self.new.pages.items ≡ length self.old.pages.items + 1 }
         ensures writes { length writes.new.items ≡ length writes.old.items + 1 }
         ensures rest { self.new.rest.items ≡ [] }
-        ensures bytes { (page : ℕ → List ℕ) → concat (map (loaded page writes.new.items) self.new.pages.items)
-            ≡ concat (map (loaded page writes.old.items) self.old.pages.items) ++ padded self.old.rest.items }
+        ensures bytes { (page : ℕ → List ℕ) → concat (map (pages_after page writes.new.items) self.new.pages.items)
+            ≡ concat (map (pages_after page writes.old.items) self.old.pages.items) ++ padded_page self.old.rest.items }
         ensures taken { (taken : List ℕ) → AreTaken tables.now taken self.old.pages.items writes.old.items
             → AreTaken tables.now taken self.new.pages.items writes.new.items }
     {
@@ -115,7 +115,7 @@ impl PagedBytes {
 // A page that begins with the bytes.
 fn page_of(bytes: &[u8]) -> Page
     requires { length bytes.now ≤ 256 }
-    ensures { result.bytes ≡ padded bytes.now }
+    ensures { result.bytes ≡ padded_page bytes.now }
 {
     let mut padded = [0; 256];
     padded[..bytes.len()].copy_from_slice(bytes);

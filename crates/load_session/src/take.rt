@@ -1,7 +1,7 @@
 //! A block is taken, and the file is whole with the last one (GlobalPlatform Card Specification 2.3.1, 11.6).
 
 ghost use Rattle.std.specs.Prelude.{◌≡◌, ◌+◌, ◌<◌, ◌≤◌, ◌++◌, [], ℕ, List, drop, length};
-ghost use Rattle.load_session.specs.Prelude.{AreNewPages, AreOwn, AreRoomy, HasPages, IsAfterBlock, IsBlockTaken, IsInLoadPages, IsReady, IsWholeFile, RepresentsAfter, RepresentsLoad, RepresentsWhole, blocks_taken, file_of, len_of, load_aid, load_slot, loaded, numbers, pages_named, pages_taken, with_block};
+ghost use Rattle.load_session.specs.Prelude.{AreNewPages, AreOwn, AreRoomy, HasPages, IsAfterBlock, IsBlockTaken, IsInLoadPages, IsReadyForBlock, IsWholeFile, RepresentsAfter, RepresentsLoad, RepresentsWhole, blocks_taken, file_of, len_of, load_aid, load_slot, numbers, pages_after, pages_named, pages_taken, with_block};
 ghost use Rattle.policy_machine.specs.State.{LoadSession as Load};
 ghost use Rattle.card_types.specs.declared.tables.Tables.{Tables as TablesOf};
 
@@ -23,13 +23,13 @@ impl LoadSession {
         writes: &mut ArrayVec<LoadWrite, WRITES>,
     )
         requires roomy { AreRoomy tables.now }
-        requires ready { IsReady tables.now self.old }
+        requires ready { IsReadyForBlock tables.now self.old }
         requires taken { IsBlockTaken tables.now self.old (record { last = last; field = block.now }) taken }
         requires number { blocks_taken self.old < 0xFFFF }
         requires short { length block.now ≤ 255 }
         requires none { writes.old.items ≡ [] }
         ensures stands { (page : ℕ → List ℕ) (load : Load) → HasPages page → RepresentsLoad page tables.now self.old load
-            → RepresentsAfter last (loaded page writes.new.items) tables.now self.new (with_block load taken.size (drop taken.start block.now)) }
+            → RepresentsAfter last (pages_after page writes.new.items) tables.now self.new (with_block load taken.size (drop taken.start block.now)) }
         ensures sound { IsAfterBlock last tables.now self.new }
         ensures number { blocks_taken self.new ≡ blocks_taken self.old + 1 }
         ensures name { (load_aid self.new ≡ load_aid self.old) × (load_slot self.new ≡ load_slot self.old) }

@@ -4,10 +4,10 @@ use Rattle.flash_core.specs.declared.flash.Flash.{Ghosts as Flash}
 use Rattle.flash_core.specs.declared.page.Page.{Page}
 use Rattle.flash_core.specs.Device.{Only}
 use Rattle.frame_pool.specs.Staged.{AreDistinct}
-use Rattle.page_journal.specs.Journal.{bytes_of, is_open, stored}
+use Rattle.page_journal.specs.Journal.{bytes_of, is_open, stored_page}
 use Rattle.page_journal.specs.Moments.{Always, LeavesOnly, Leaves, current}
 use Rattle.page_journal.specs.Phases.{IsRecord, IsStaged, CopiesOf, Names, HomesOf}
-use Rattle.page_journal.specs.Store.{AreStorePages, SameBelow, IsListed}
+use Rattle.page_journal.specs.Store.{AreStorePages, SameBelow, StandsForList}
 use Rattle.page_journal.specs.Touches.{SameOutside, IsTorn, Touches}
 use Rattle.page_journal.proofs.Runs.{only_torn, then_only}
 use Rattle.page_journal.proofs.PageKinds.{IsGate, IsPage, descriptor_page, gate_page}
@@ -30,7 +30,7 @@ module _ {F T : Type 0} (device : Flash F) (only : (f : F) (c : List Page) → T
     (pool : List (ℕ × Page)) (some : 0 < length pool) (room : length pool ≤ 30) (homes : AreStorePages pool) (distinct : AreDistinct pool) (f0 : F) (closed : is_open (device.pages f0) ≡ false) where
   -- power lost leaves the pages from before or those after
   abbrev pub Either : List ℕ → List Page → Type 0
-  Either loose c = Leaves (stored (device.pages f0)) loose c ⊎ Leaves (current pool (device.pages f0)) [] c
+  Either loose c = Leaves (stored_page (device.pages f0)) loose c ⊎ Leaves (current pool (device.pages f0)) [] c
 
   -- after a part of a commit: what power lost may have left so far, and what is recorded
   pub record SoFar (loose : List ℕ) (f : F) : Type 0 where
@@ -38,7 +38,7 @@ module _ {F T : Type 0} (device : Flash F) (only : (f : F) (c : List Page) → T
     pub kept : Recorded pool (device.pages f0) (device.pages f)
 
   -- The copies and the descriptor are written while the gate is closed.
-  pub first : (loose : List ℕ) (f1 : F) → Always (device.may_leave f0) (SameBelow (device.pages f0)) → Always (device.may_leave f0) (Leaves (stored (device.pages f0)) loose) → Touches device IsRecord f0 f1 → LeavesOnly device f0 f1 (Either loose)
+  pub first : (loose : List ℕ) (f1 : F) → Always (device.may_leave f0) (SameBelow (device.pages f0)) → Always (device.may_leave f0) (Leaves (stored_page (device.pages f0)) loose) → Touches device IsRecord f0 f1 → LeavesOnly device f0 f1 (Either loose)
   first loose f1 calm before run = only_torn device only told IsRecord f0 f1 (Either loose) run here
     where
       here : (c : List Page) → IsTorn IsRecord (device.may_leave f0) c → Either loose c
@@ -47,7 +47,7 @@ module _ {F T : Type 0} (device : Flash F) (only : (f : F) (c : List Page) → T
           let below = calm d torn.1 in
           let gate_d : is_open d ≡ false = gate_same d (device.pages f0) (below gate_page (omega arith)) ∙ closed in
           let gate : is_open c ≡ false = gate_same c d (torn.2 gate_page (λ r. omega (arith, r.0))) ∙ gate_d in
-          inl (shut (stored (device.pages f0)) loose c gate (λ p lt. torn.2 p (outside p (inl lt)) ∙ below p (omega (arith, lt)) ∙ sym (stored_shut (device.pages f0) p closed))
+          inl (shut (stored_page (device.pages f0)) loose c gate (λ p lt. torn.2 p (outside p (inl lt)) ∙ below p (omega (arith, lt)) ∙ sym (stored_shut (device.pages f0) p closed))
           (λ p le tight. torn.2 p (outside p (inr le)) ∙ sym (stored_shut d p gate_d) ∙ (before d torn.1).load p le tight))
 
   pub recorded : (f1 : F) → Touches device IsRecord f0 f1 → CopiesOf (length pool) pool (device.pages f1) → (page : Page) × (slice_get (device.pages f1) descriptor_page ≡ Some page) × Names pool page.bytes → Recorded pool (device.pages f0) (device.pages f1)
@@ -58,7 +58,7 @@ module _ {F T : Type 0} (device : Flash F) (only : (f : F) (c : List Page) → T
   }
 
   -- The gate is opened before the copies.
-  pub second : (loose : List ℕ) (f1 f2 : F) → Always (device.may_leave f0) (SameBelow (device.pages f0)) → Always (device.may_leave f0) (Leaves (stored (device.pages f0)) loose) → Touches device IsRecord f0 f1 → CopiesOf (length pool) pool (device.pages f1)
+  pub second : (loose : List ℕ) (f1 f2 : F) → Always (device.may_leave f0) (SameBelow (device.pages f0)) → Always (device.may_leave f0) (Leaves (stored_page (device.pages f0)) loose) → Touches device IsRecord f0 f1 → CopiesOf (length pool) pool (device.pages f1)
       → (page : Page) × (slice_get (device.pages f1) descriptor_page ≡ Some page) × Names pool page.bytes → Only (device.pages f1) (device.may_leave f1) → Touches device IsGate f1 f2 → SoFar loose f2
   second loose f1 f2 calm before wrote copies names synced run = record {
     moments = then_only device only told f0 f1 f2 (Either loose) (first loose f1 calm before wrote) (only_torn device only told IsGate f1 f2 (Either loose) run here);
@@ -73,12 +73,12 @@ module _ {F T : Type 0} (device : Flash F) (only : (f : F) (c : List Page) → T
           let same : SameOutside IsGate (device.pages f1) c = subst (λ d. SameOutside IsGate d c) (synced torn.0 torn.1) torn.2 in
           by_gate same (is_or_not (is_open c))
         where
-          at : SameOutside IsGate (device.pages f1) c → (p : ℕ) → IsPage p → slice_get c p ≡ stored (device.pages f0) p
+          at : SameOutside IsGate (device.pages f1) c → (p : ℕ) → IsPage p → slice_get c p ≡ stored_page (device.pages f0) p
           at same p page = same p (no_gate p page) ∙ wrote.seen p (outside p page) ∙ sym (stored_shut (device.pages f0) p closed)
 
           by_gate : SameOutside IsGate (device.pages f1) c → (is_open c ≡ true) ⊎ (is_open c ≡ false) → Either loose c
           by_gate same (inl gate) = inr (opened pool (device.pages f0) c some room homes distinct closed (recorded_after IsGate pool (device.pages f0) (device.pages f1) c homes (λ p is. inl is) same was) gate)
-          by_gate same (inr gate) = inl (shut (stored (device.pages f0)) loose c gate (λ p lt. at same p (inl lt)) (λ p le tight. at same p (inr le)))
+          by_gate same (inr gate) = inl (shut (stored_page (device.pages f0)) loose c gate (λ p lt. at same p (inl lt)) (λ p le tight. at same p (inr le)))
 
   -- The pages in place are written while the gate is open.
   pub third : (loose : List ℕ) (f2 f3 : F) → SoFar loose f2 → is_open (device.pages f2) ≡ true → Only (device.pages f2) (device.may_leave f2) → Touches device (IsStaged pool) f2 f3 → SoFar loose f3
@@ -110,7 +110,7 @@ module _ {F T : Type 0} (device : Flash F) (only : (f : F) (c : List Page) → T
           by_gate kept stand (inr gate) = inr (closed_after pool (device.pages f0) c some room homes distinct closed kept stand gate)
 
   -- what the device stands for in the end
-  pub ended : (f3 f4 : F) → Recorded pool (device.pages f0) (device.pages f3) → HomesOf (length pool) pool (device.pages f3) → Touches device IsGate f3 f4 → is_open (device.pages f4) ≡ false → IsListed (current pool (device.pages f0)) (device.pages f4)
+  pub ended : (f3 f4 : F) → Recorded pool (device.pages f0) (device.pages f3) → HomesOf (length pool) pool (device.pages f3) → Touches device IsGate f3 f4 → is_open (device.pages f4) ≡ false → StandsForList (current pool (device.pages f0)) (device.pages f4)
   ended f3 f4 was put run gate =
       listed pool (device.pages f0) (device.pages f4) some room homes distinct closed (recorded_after IsGate pool (device.pages f0) (device.pages f3) (device.pages f4) homes (λ p is. inl is) run.seen was)
       (λ i e lt is. run.seen e.0 (λ at. omega (arith, at, homes i e is)) ∙ put i e lt is) gate

@@ -3,7 +3,7 @@ use Rattle.std.proofs.Common.{◌≡◌, ◌≢◌, ◌⊎◌, inl, inr, ℕ, �
 use Rattle.std.proofs.lemmas.Bool.{cases_eq}
 use Rattle.flash_core.specs.declared.page.Page.{Page}
 use Rattle.flash_core.specs.Device.{SameBut}
-use Rattle.frame_pool.specs.Staged.{staged, AreDistinct}
+use Rattle.frame_pool.specs.Staged.{staged_at, AreDistinct}
 use Rattle.frame_pool.proofs.Places.{found_staged}
 use Rattle.page_journal.specs.Journal.{IsValid}
 use Rattle.page_journal.specs.Phases.{CopiesOf, HomesOf, CopiesHome, IsInDescriptor, IsStaged}
@@ -34,11 +34,11 @@ homes_more index n pages x old new distinct homes is torn written i entry lt the
     by_place i entry lt there (inr other) = torn.others entry.0 (λ same. other (distinct i index entry (n, x) there is same)) ∙ homes i entry (omega (arith, lt, other)) there
 
 -- an entry of distinct pages is staged under its number
-pub entry_staged : (pages : Pages) (i : ℕ) (entry : ℕ × Page) → AreDistinct pages → slice_get pages i ≡ Some entry → staged pages entry.0 ≡ Some entry.1
+pub entry_staged : (pages : Pages) (i : ℕ) (entry : ℕ × Page) → AreDistinct pages → slice_get pages i ≡ Some entry → staged_at pages entry.0 ≡ Some entry.1
 entry_staged pages i entry distinct is = found_staged pages i entry.0 entry.1 is (λ k s lt there same. let e : k ≡ i = distinct k i s entry there is same in omega (arith, lt, e))
 
 pub is_staged : (pages : Pages) (i n : ℕ) (x : Page) → AreDistinct pages → slice_get pages i ≡ Some (n, x) → (p : ℕ) → p ≡ n → IsStaged pages p
-is_staged pages i n x distinct is p same = rw (ap (staged pages) same ∙ entry_staged pages i (n, x) distinct is) refl
+is_staged pages i n x distinct is p same = rw (ap (staged_at pages) same ∙ entry_staged pages i (n, x) distinct is) refl
 
 pub named_more : (index : ℕ) (bytes : List ℕ) (x : Page) (start old new : List Page) → IsValid bytes → index < get_or bytes 0 0 → CopiesHome index bytes start old → slice_get start (copy_page index) ≡ Some x
     → SameBut (get_or bytes (index + 1) 0) old new → slice_get new (get_or bytes (index + 1) 0) ≡ Some x → CopiesHome (index + 1) bytes start new

@@ -4,11 +4,11 @@ use Rattle.std.proofs.lemmas.Bool.{cases_eq, false≢true}
 use Rattle.std.proofs.lemmas.Bool.Decides.{nat_tests}
 use Rattle.std.proofs.lemmas.Option.{slice_get_cases, slice_get_within}
 use Rattle.flash_core.specs.declared.page.Page.{Page}
-use Rattle.frame_pool.specs.Staged.{staged, AreDistinct}
-use Rattle.page_journal.specs.Journal.{bytes_of, is_open, descriptor, IsValid, copied_place, stored}
+use Rattle.frame_pool.specs.Staged.{staged_at, AreDistinct}
+use Rattle.page_journal.specs.Journal.{bytes_of, is_open, descriptor, IsValid, copied_place, stored_page}
 use Rattle.page_journal.specs.Moments.{Leaves, first_of, current}
 use Rattle.page_journal.specs.Phases.{IsStaged, CopiesOf, Names, HomesOf}
-use Rattle.page_journal.specs.Store.{AreStorePages, IsListed}
+use Rattle.page_journal.specs.Store.{AreStorePages, StandsForList}
 use Rattle.page_journal.specs.Touches.{SameOutside}
 use Rattle.page_journal.specs.Pages.{IsStorePage}
 use Rattle.page_journal.proofs.Descriptors.{place_found, place_home}
@@ -23,10 +23,10 @@ gate_same a b same = ap (λ (o : Option Page). get_or (bytes_of o) 0 0 == 165) s
 pub descriptor_same : (a b : List Page) → slice_get a descriptor_page ≡ slice_get b descriptor_page → descriptor a ≡ descriptor b
 descriptor_same a b same = ap bytes_of same
 
-pub stored_shut : (pages : List Page) (page : ℕ) → is_open pages ≡ false → stored pages page ≡ slice_get pages page
+pub stored_shut : (pages : List Page) (page : ℕ) → is_open pages ≡ false → stored_page pages page ≡ slice_get pages page
 stored_shut pages page closed = ap (λ b. slice_get pages (if b then copied_place (descriptor pages) page else page)) closed
 
-pub stored_open : (pages : List Page) (page : ℕ) → is_open pages ≡ true → stored pages page ≡ slice_get pages (copied_place (descriptor pages) page)
+pub stored_open : (pages : List Page) (page : ℕ) → is_open pages ≡ true → stored_page pages page ≡ slice_get pages (copied_place (descriptor pages) page)
 stored_open pages page opened = ap (λ b. slice_get pages (if b then copied_place (descriptor pages) page else page)) opened
 
 -- with a closed gate
@@ -39,19 +39,19 @@ shut list loose c closed store load = record {
 
 -- where a page is staged, or that it is not
 abbrev Found : Pages → ℕ → Type 0
-Found pool p = (i : ℕ) × (x : Page) × (slice_get pool i ≡ Some (p, x)) × ((k : ℕ) (s : ℕ × Page) → k < i → slice_get pool k ≡ Some s → s.0 ≢ p) × (staged pool p ≡ Some x)
+Found pool p = (i : ℕ) × (x : Page) × (slice_get pool i ≡ Some (p, x)) × ((k : ℕ) (s : ℕ × Page) → k < i → slice_get pool k ≡ Some s → s.0 ≢ p) × (staged_at pool p ≡ Some x)
 
 abbrev Missing : Pages → ℕ → Type 0
-Missing pool p = ((k : ℕ) (s : ℕ × Page) → slice_get pool k ≡ Some s → s.0 ≢ p) × (staged pool p ≡ None)
+Missing pool p = ((k : ℕ) (s : ℕ × Page) → slice_get pool k ≡ Some s → s.0 ≢ p) × (staged_at pool p ≡ None)
 
 look : (pool : Pages) (p : ℕ) → Found pool p ⊎ Missing pool p
 look [] p = inr ((λ k s is. absurd (cc is)), refl)
 look (e ∷ pool) p = by_head (cases_eq e.0 p) (look pool p)
   where
-    hit : e.0 ≡ p → staged (e ∷ pool) p ≡ Some e.1
+    hit : e.0 ≡ p → staged_at (e ∷ pool) p ≡ Some e.1
     hit is = grind (arith, nat_tests)
 
-    miss : e.0 ≢ p → staged (e ∷ pool) p ≡ staged pool p
+    miss : e.0 ≢ p → staged_at (e ∷ pool) p ≡ staged_at pool p
     miss ne = grind (arith, nat_tests)
 
     before : (i : ℕ) → e.0 ≢ p → ((k : ℕ) (s : ℕ × Page) → k < i → slice_get pool k ≡ Some s → s.0 ≢ p) → (k : ℕ) (s : ℕ × Page) → k < suc i → slice_get (e ∷ pool) k ≡ Some s → s.0 ≢ p
@@ -70,7 +70,7 @@ look (e ∷ pool) p = by_head (cases_eq e.0 p) (look pool p)
 pub staged_store : (pool : Pages) (p : ℕ) → AreStorePages pool → IsStaged pool p → IsStorePage p
 staged_store pool p homes is = ⊎_elim (λ (f : Found pool p). homes f.0 (p, f.1) f.2) (λ (m : Missing pool p). absurd (none m.1)) (look pool p)
   where
-    none : staged pool p ≡ None → ⊥
+    none : staged_at pool p ≡ None → ⊥
     none missing = absurd (cc (ap is_some missing, is))
 
 entry_at : (pool : Pages) (i : ℕ) → i < length pool → (e : ℕ × Page) × (slice_get pool i ≡ Some e)
@@ -113,17 +113,17 @@ recorded_after inside pool start a c homes within same was = record {
     low p le (inr is) = omega (arith, le, staged_store pool p homes is)
 
 module _ (pool : Pages) (start c : List Page) (some : 0 < length pool) (room : length pool ≤ 30) (homes : AreStorePages pool) (distinct : AreDistinct pool) (closed : is_open start ≡ false) where
-  unstaged : (p : ℕ) → staged pool p ≡ None → IsStaged pool p → ⊥
+  unstaged : (p : ℕ) → staged_at pool p ≡ None → IsStaged pool p → ⊥
   unstaged p none is = absurd (cc (ap is_some none, is))
 
-  list_some : (p : ℕ) (x : Page) → staged pool p ≡ Some x → Some x ≡ current pool start p
-  list_some p x is = sym (ap (λ (o : Option Page). first_of o (stored start p)) is)
+  list_some : (p : ℕ) (x : Page) → staged_at pool p ≡ Some x → Some x ≡ current pool start p
+  list_some p x is = sym (ap (λ (o : Option Page). first_of o (stored_page start p)) is)
 
-  list_none : (p : ℕ) → staged pool p ≡ None → slice_get start p ≡ current pool start p
-  list_none p none = sym (stored_shut start p closed) ∙ sym (ap (λ (o : Option Page). first_of o (stored start p)) none)
+  list_none : (p : ℕ) → staged_at pool p ≡ None → slice_get start p ≡ current pool start p
+  list_none p none = sym (stored_shut start p closed) ∙ sym (ap (λ (o : Option Page). first_of o (stored_page start p)) none)
 
   -- with an open gate the copies count
-  at_copy : Recorded pool start c → is_open c ≡ true → (p : ℕ) → IsPage p → stored c p ≡ current pool start p
+  at_copy : Recorded pool start c → is_open c ≡ true → (p : ℕ) → IsPage p → stored_page c p ≡ current pool start p
   at_copy was opened p page = stored_open c p opened ∙ by_look (look pool p)
     where
       bytes : List ℕ
@@ -163,5 +163,5 @@ module _ (pool : Pages) (start c : List Page) (some : 0 < length pool) (room : l
   pub closed_after : Recorded pool start c → HomesOf (length pool) pool c → is_open c ≡ false → Leaves (current pool start) [] c
   closed_after was put is = shut (current pool start) [] c is (λ p lt. at_home was put p (inl lt)) (λ p le tight. at_home was put p (inr le))
 
-  pub listed : Recorded pool start c → HomesOf (length pool) pool c → is_open c ≡ false → IsListed (current pool start) c
+  pub listed : Recorded pool start c → HomesOf (length pool) pool c → is_open c ≡ false → StandsForList (current pool start) c
   listed was put is p page = stored_shut c p is ∙ at_home was put p page

@@ -5,7 +5,7 @@ use Rattle.std.proofs.lemmas.Bool.Decides.{nat_tests}
 use Rattle.flash_core.specs.declared.flash.Flash.{Ghosts as Flash}
 use Rattle.flash_core.specs.declared.page.Page.{Page}
 use Rattle.frame_pool.specs.Staged.{with_page}
-use Rattle.page_journal.specs.Journal.{bytes_of, is_open, copied_place, place_of_page, stored}
+use Rattle.page_journal.specs.Journal.{bytes_of, is_open, copied_place, place_of_page, stored_page}
 use Rattle.page_journal.specs.Moments.{Always, LeavesOnly, Leaves}
 use Rattle.page_journal.specs.Store.{AreStorePages, SameBelow}
 use Rattle.page_journal.specs.Touches.{IsTorn, Touches}
@@ -38,22 +38,22 @@ none_some None is = refl
 none_some (Some x) is = absurd (cc is)
 
 -- where a page of the list stands
-pub stored_at : (pages : List Page) (journal : Option Page) (page : ℕ) → is_open pages ≡ is_some journal → IfSome journal (λ d. slice_get pages descriptor_page ≡ Some d) → stored pages page ≡ slice_get pages (place_of_page journal page)
+pub stored_at : (pages : List Page) (journal : Option Page) (page : ℕ) → is_open pages ≡ is_some journal → IfSome journal (λ d. slice_get pages descriptor_page ≡ Some d) → stored_page pages page ≡ slice_get pages (place_of_page journal page)
 stored_at pages None page gate named = stored_shut pages page gate
 stored_at pages (Some d) page gate named = stored_open pages page gate ∙ ap (λ (o : Option Page). slice_get pages (copied_place (bytes_of o) page)) named
 
 module _ {F T : Type 0} (device : Flash F) (only : (f : F) (c : List Page) → T → device.left_since f (device.moment f) c → device.may_leave f c) (told : T) where
   -- a load page that was written is loose
-  pub free : (loose : List ℕ) (page : ℕ) (old new : F) → IsPastJournal page → is_open (device.pages old) ≡ false → Always (device.may_leave old) (SameBelow (device.pages old)) → Always (device.may_leave old) (Leaves (stored (device.pages old)) loose)
-      → Touches device (λ p. p ≡ page) old new → LeavesOnly device old new (Leaves (stored (device.pages old)) (page ∷ loose))
-  free loose page old new high closed calm before run = only_torn device only told (λ p. p ≡ page) old new (Leaves (stored (device.pages old)) (page ∷ loose)) run here
+  pub free : (loose : List ℕ) (page : ℕ) (old new : F) → IsPastJournal page → is_open (device.pages old) ≡ false → Always (device.may_leave old) (SameBelow (device.pages old)) → Always (device.may_leave old) (Leaves (stored_page (device.pages old)) loose)
+      → Touches device (λ p. p ≡ page) old new → LeavesOnly device old new (Leaves (stored_page (device.pages old)) (page ∷ loose))
+  free loose page old new high closed calm before run = only_torn device only told (λ p. p ≡ page) old new (Leaves (stored_page (device.pages old)) (page ∷ loose)) run here
     where
-      here : (c : List Page) → IsTorn (λ p. p ≡ page) (device.may_leave old) c → Leaves (stored (device.pages old)) (page ∷ loose) c
+      here : (c : List Page) → IsTorn (λ p. p ≡ page) (device.may_leave old) c → Leaves (stored_page (device.pages old)) (page ∷ loose) c
       here c torn =
           let d = torn.0 in
           let below = calm d torn.1 in
           let was = before d torn.1 in
           let gate_d : is_open d ≡ false = gate_same d (device.pages old) (below gate_page (omega arith)) ∙ closed in
           let gate : is_open c ≡ false = gate_same c d (torn.2 gate_page (λ is. omega (arith, is, high))) ∙ gate_d in
-          shut (stored (device.pages old)) (page ∷ loose) c gate (λ p lt. torn.2 p (λ is. omega (arith, is, lt, high)) ∙ sym (stored_shut d p gate_d) ∙ was.store p lt)
+          shut (stored_page (device.pages old)) (page ∷ loose) c gate (λ p lt. torn.2 p (λ is. omega (arith, is, lt, high)) ∙ sym (stored_shut d p gate_d) ∙ was.store p lt)
           (λ p le tight. torn.2 p (λ is. tight (0, omega arith, sym is)) ∙ sym (stored_shut d p gate_d) ∙ was.load p le (λ in_loose. tight (suc in_loose.0, omega (arith, in_loose.1), in_loose.2)))

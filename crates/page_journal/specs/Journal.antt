@@ -42,8 +42,8 @@ abbrev pub place : List Page → ℕ → ℕ
 place pages page = if is_open pages then copied_place (descriptor pages) page else page
 
 -- a store page or a load page of the list that these pages stand for
-abbrev pub stored : List Page → ℕ → Option Page
-stored pages page = slice_get pages (place pages page)
+abbrev pub stored_page : List Page → ℕ → Option Page
+stored_page pages page = slice_get pages (place pages page)
 
 -- they stand for a list: where the gate is open the descriptor has a valid form
 abbrev pub HasValidJournal : List Page → Type 0

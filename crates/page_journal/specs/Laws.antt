@@ -9,10 +9,10 @@ abbrev pub IsCopyOf : List Page → ℕ → ℕ → Type 0
 IsCopyOf pages copy page = (copy < slice_index (descriptor pages) 0) × (slice_index (descriptor pages) (copy + 1) ≡ page)
 
 -- with a closed gate a page stands at home, with an open one in the copy that is named for it, and at home where none is
-pub record StandsAt (pages : List Page) (page at : ℕ) : Type 0 where
+pub record PageStandsAt (pages : List Page) (page at : ℕ) : Type 0 where
   pub closed : is_open pages ≡ false → at ≡ page
   pub copied : is_open pages ≡ true → (copy : ℕ) → IsCopyOf pages copy page → at ≡ COPIES + copy
   pub home : is_open pages ≡ true → ((copy : ℕ) → IsCopyOf pages copy page → ⊥) → at ≡ page
 
 abbrev pub PagesStand : Type 0
-PagesStand = (pages : List Page) (page : ℕ) → HasValidJournal pages → StandsAt pages page (place pages page)
+PagesStand = (pages : List Page) (page : ℕ) → HasValidJournal pages → PageStandsAt pages page (place pages page)

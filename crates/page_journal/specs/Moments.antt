@@ -2,8 +2,8 @@
 use Rattle.std.specs.Prelude.{◌≡◌, ◌⊎◌, ℕ, ◌<◌, ◌≤◌, List, [], Option, None, Some, Contains}
 use Rattle.flash_core.specs.declared.flash.Flash.{Ghosts as Flash}
 use Rattle.flash_core.specs.declared.page.Page.{Page}
-use Rattle.frame_pool.specs.Staged.{staged}
-use Rattle.page_journal.specs.Journal.{stored, HasValidJournal}
+use Rattle.frame_pool.specs.Staged.{staged_at}
+use Rattle.page_journal.specs.Journal.{stored_page, HasValidJournal}
 use Rattle.page_journal.specs.Pages.{IsStorePage}
 use Rattle.page_journal.specs.declared.pages.TheConstants.{FIRST_LOAD_PAGE}
 
@@ -11,8 +11,8 @@ use Rattle.page_journal.specs.declared.pages.TheConstants.{FIRST_LOAD_PAGE}
 -- leaves any bytes in a loose page.
 pub record Leaves (pages : ℕ → Option Page) (loose : List ℕ) (outcome : List Page) : Type 0 where
   pub sound : HasValidJournal outcome
-  pub store : (page : ℕ) → IsStorePage page → stored outcome page ≡ pages page
-  pub load : (page : ℕ) → FIRST_LOAD_PAGE ≤ page → (Contains loose page → ⊥) → stored outcome page ≡ pages page
+  pub store : (page : ℕ) → IsStorePage page → stored_page outcome page ≡ pages page
+  pub load : (page : ℕ) → FIRST_LOAD_PAGE ≤ page → (Contains loose page → ⊥) → stored_page outcome page ≡ pages page
 
 -- whatever a power loss now leaves has P
 abbrev pub Always : (List Page → Type 0) → (List Page → Type 0) → Type 0
@@ -26,8 +26,8 @@ pub record LeavesOnly {F : Type 0} (device : Flash F) (old new : F) (P : List Pa
   pub before : (t : ℕ) (outcome : List Page) → t ≤ device.moment old → device.left_since new t outcome → device.left_since old t outcome ⊎ P outcome
 
 -- the committed pages of a list, or all those of another
-abbrev pub LeavesEither : (ℕ → Option Page) → List ℕ → (ℕ → Option Page) → List Page → Type 0
-LeavesEither before loose after outcome = Leaves before loose outcome ⊎ Leaves after [] outcome
+abbrev pub LeavesEitherList : (ℕ → Option Page) → List ℕ → (ℕ → Option Page) → List Page → Type 0
+LeavesEitherList before loose after outcome = Leaves before loose outcome ⊎ Leaves after [] outcome
 
 -- the first of the two that is there
 abbrev pub first_of : Option Page → Option Page → Option Page
@@ -36,4 +36,4 @@ first_of (Some page) other = Some page
 
 -- the list with the staged pages in their places
 abbrev pub current : List (ℕ × Page) → List Page → ℕ → Option Page
-current pages device page = first_of (staged pages page) (stored device page)
+current pages device page = first_of (staged_at pages page) (stored_page device page)

@@ -1,7 +1,7 @@
 -- For the code inside. The pages that each part of a commit touches, and what it leaves there.
 use Rattle.std.specs.Prelude.{◌≡◌, ℕ, ◌+◌, ◌<◌, ◌≤◌, List, length, Some, IsSome, slice_get, slice_index}
 use Rattle.flash_core.specs.declared.page.Page.{Page}
-use Rattle.frame_pool.specs.Staged.{staged}
+use Rattle.frame_pool.specs.Staged.{staged_at}
 use Rattle.frame_pool.specs.declared.pool.TheConstants.{FRAMES}
 use Rattle.page_journal.specs.declared.pages.TheConstants.{COPIES, DESCRIPTOR}
 
@@ -15,7 +15,7 @@ IsRecord page = (DESCRIPTOR ≤ page) × (page < COPIES + FRAMES)
 
 -- a page that is staged
 abbrev pub IsStaged : List (ℕ × Page) → ℕ → Type 0
-IsStaged pages page = IsSome (staged pages page)
+IsStaged pages page = IsSome (staged_at pages page)
 
 -- the first so many staged pages have their copies
 abbrev pub CopiesOf : ℕ → List (ℕ × Page) → List Page → Type 0

@@ -5,7 +5,7 @@ use Rattle.flash_core.specs.declared.flash.Flash.{Ghosts as Flash}
 use Rattle.flash_core.specs.declared.page.Page.{Page}
 use Rattle.page_journal.specs.declared.cause.MountCause.{MountCause}
 use Rattle.page_journal.specs.declared.cause.MountCause.TheVariants.{Memory, FlashFailed, BadJournal}
-use Rattle.page_journal.specs.Journal.{is_open, descriptor, IsValid, stored}
+use Rattle.page_journal.specs.Journal.{is_open, descriptor, IsValid, stored_page}
 use Rattle.page_journal.specs.Moments.{Always}
 use Rattle.page_journal.specs.Pages.{IsStorePage}
 use Rattle.page_journal.specs.declared.pages.TheConstants.{DESCRIPTOR, FIRST_LOAD_PAGE}
@@ -36,8 +36,8 @@ abbrev pub AreStorePages : List (ℕ × Page) → Type 0
 AreStorePages pages = (i : ℕ) (entry : ℕ × Page) → slice_get pages i ≡ Some entry → IsStorePage entry.0
 
 -- the pages of a device stand for this list
-abbrev pub IsListed : (ℕ → Option Page) → List Page → Type 0
-IsListed list pages = (page : ℕ) → IsStorePage page ⊎ (FIRST_LOAD_PAGE ≤ page) → stored pages page ≡ list page
+abbrev pub StandsForList : (ℕ → Option Page) → List Page → Type 0
+StandsForList list pages = (page : ℕ) → IsStorePage page ⊎ (FIRST_LOAD_PAGE ≤ page) → stored_page pages page ≡ list page
 
 -- Why a device is not mounted: it failed, or the gate is open before a descriptor that has no valid form.
 abbrev pub CauseHolds : Type 0 → ℕ → ℕ → List Page → MountCause → Type 0

@@ -6,9 +6,9 @@ ghost use Rattle.flash_core.specs.declared.page.Page.{Page as PageOf};
 ghost use Rattle.flash_core.specs.Device.{Only};
 ghost use Rattle.frame_pool.specs.Staged.{AreDistinct};
 ghost use Rattle.frame_pool.specs.declared.pool.TheConstants.{FRAMES};
-ghost use Rattle.page_journal.specs.Journal.{is_open, stored, IsValid};
-ghost use Rattle.page_journal.specs.Moments.{Always, LeavesEither, LeavesOnly, Leaves, current};
-ghost use Rattle.page_journal.specs.Store.{AreStorePages, SameBelow, IsListed};
+ghost use Rattle.page_journal.specs.Journal.{is_open, stored_page, IsValid};
+ghost use Rattle.page_journal.specs.Moments.{Always, LeavesEitherList, LeavesOnly, Leaves, current};
+ghost use Rattle.page_journal.specs.Store.{AreStorePages, SameBelow, StandsForList};
 ghost use Rattle.page_journal.specs.declared.pages.TheConstants.{DESCRIPTOR};
 
 use crate::steps::{OPEN, copy_in_place, put_in_place, record, set_gate};
@@ -23,10 +23,10 @@ pub fn commit_pages<F: Flash>(flash: &mut F, pool: &FramePool) -> Result<(), Fla
     requires distinct { AreDistinct pool.now }
     requires closed { F.tells → is_open (F.pages flash.old) ≡ false }
     requires calm { F.tells → Always (F.may_leave flash.old) (SameBelow (F.pages flash.old)) }
-    ensures moments { F.tells → (loose : List ℕ) → Always (F.may_leave flash.old) (Leaves (stored (F.pages flash.old)) loose)
+    ensures moments { F.tells → (loose : List ℕ) → Always (F.may_leave flash.old) (Leaves (stored_page (F.pages flash.old)) loose)
         → LeavesOnly F.Flash flash.old flash.new
-        (LeavesEither (stored (F.pages flash.old)) loose (current pool.now (F.pages flash.old))) }
-    ensures list { F.tells → OnOk result (IsListed (current pool.now (F.pages flash.old)) (F.pages flash.new)) }
+        (LeavesEitherList (stored_page (F.pages flash.old)) loose (current pool.now (F.pages flash.old))) }
+    ensures list { F.tells → OnOk result (StandsForList (current pool.now (F.pages flash.old)) (F.pages flash.new)) }
     ensures only { F.tells → OnOk result (Only (F.pages flash.new) (F.may_leave flash.new)) }
     ensures shut { F.tells → OnOk result (is_open (F.pages flash.new) ≡ false) }
     ensures cause { HasCause (F.faults flash.old) (F.faults flash.new) result }
@@ -45,9 +45,9 @@ pub fn settle_pages<F: Flash>(flash: &mut F, descriptor: &Page) -> Result<(), Fl
     requires gate { F.tells → is_open (F.pages flash.old) ≡ true }
     requires named { F.tells → slice_get (F.pages flash.old) DESCRIPTOR ≡ Some descriptor.now }
     requires calm { F.tells → Always (F.may_leave flash.old) (SameBelow (F.pages flash.old)) }
-    ensures moments { F.tells → (loose : List ℕ) → Always (F.may_leave flash.old) (Leaves (stored (F.pages flash.old)) loose)
-        → LeavesOnly F.Flash flash.old flash.new (Leaves (stored (F.pages flash.old)) loose) }
-    ensures list { F.tells → OnOk result (IsListed (stored (F.pages flash.old)) (F.pages flash.new)) }
+    ensures moments { F.tells → (loose : List ℕ) → Always (F.may_leave flash.old) (Leaves (stored_page (F.pages flash.old)) loose)
+        → LeavesOnly F.Flash flash.old flash.new (Leaves (stored_page (F.pages flash.old)) loose) }
+    ensures list { F.tells → OnOk result (StandsForList (stored_page (F.pages flash.old)) (F.pages flash.new)) }
     ensures only { F.tells → OnOk result (Only (F.pages flash.new) (F.may_leave flash.new)) }
     ensures shut { F.tells → OnOk result (is_open (F.pages flash.new) ≡ false) }
     ensures cause { HasCause (F.faults flash.old) (F.faults flash.new) result }

@@ -4,16 +4,16 @@ ghost use Rattle.std.specs.Prelude.{◌≡◌, ◌≢◌, ◌⊎◌, ◌<◌, �
 ghost use Rattle.faults.specs.Faults.{HasCause, Rose};
 ghost use Rattle.flash_core.specs.declared.page.Page.{Page as PageOf};
 ghost use Rattle.flash_core.specs.Device.{NoneNew, SameBut, Only};
-ghost use Rattle.frame_pool.specs.Staged.{staged, with_page};
+ghost use Rattle.frame_pool.specs.Staged.{staged_at, with_page};
 ghost use Rattle.frame_pool.specs.declared.pool.TheConstants.{FRAMES};
-ghost use Rattle.page_journal.specs.Journal.{HasValidJournal, IsValid, is_open, stored};
-ghost use Rattle.page_journal.specs.Moments.{Always, LeavesEither, LeavesOnly, Leaves, current};
+ghost use Rattle.page_journal.specs.Journal.{HasValidJournal, IsValid, is_open, stored_page};
+ghost use Rattle.page_journal.specs.Moments.{Always, LeavesEitherList, LeavesOnly, Leaves, current};
 ghost use Rattle.page_journal.specs.Pages.{IsLoadPage, IsStorePage};
-ghost use Rattle.page_journal.specs.Store.{IsListed, HasJournal, CauseHolds, MountFails};
+ghost use Rattle.page_journal.specs.Store.{StandsForList, HasJournal, CauseHolds, MountFails};
 
 use crate::cause::{MountCause, MountError};
 use crate::commit::{commit_pages, settle_pages};
-use crate::descriptor::{is_valid, place_behind};
+use crate::descriptor::{is_valid, place_after};
 use crate::pages::{DESCRIPTOR, GATE};
 use crate::steps::OPEN;
 use flash_core::{Flash, FlashFailed, Page};
@@ -108,9 +108,9 @@ impl<F: Flash> PageStore<F> {
         requires live { self.old.live ≡ true }
         requires none { self.old.staged ≡ [] }
         // The committed pages are the same at every moment.
-        ensures moments { F.tells → (loose : List ℕ) → Always (F.may_leave self.old.flash) (Leaves (stored (F.pages self.old.flash)) loose)
-            → LeavesOnly F.Flash self.old.flash self.new.flash (Leaves (stored (F.pages self.old.flash)) loose) }
-        ensures list { F.tells → OnOk result (IsListed (stored (F.pages self.old.flash)) (F.pages self.new.flash)) }
+        ensures moments { F.tells → (loose : List ℕ) → Always (F.may_leave self.old.flash) (Leaves (stored_page (F.pages self.old.flash)) loose)
+            → LeavesOnly F.Flash self.old.flash self.new.flash (Leaves (stored_page (F.pages self.old.flash)) loose) }
+        ensures list { F.tells → OnOk result (StandsForList (stored_page (F.pages self.old.flash)) (F.pages self.new.flash)) }
         ensures only { F.tells → self.old.settled ≡ false → OnOk result (Only (F.pages self.new.flash) (F.may_leave self.new.flash)) }
         ensures idle { self.old.settled ≡ true → IsOk result × (self.new ≡ self.old) }
         ensures ok { OnOk result ((self.new.settled ≡ true) × (self.new.live ≡ true) × (self.new.staged ≡ [])) }
@@ -131,10 +131,10 @@ impl<F: Flash> PageStore<F> {
     /// Reads a page: the staged one, and otherwise that of the list, loose or not.
     pub fn read(&mut self, page: u16, into: &mut Page) -> Result<(), FlashFailed>
         requires { IsStorePage page ⊎ IsLoadPage page }
-        ensures staged { IfSome (staged self.old.staged page) (λ x. IsOk result × (into.new ≡ x) × (self.new ≡ self.old)) }
+        ensures staged { IfSome (staged_at self.old.staged page) (λ x. IsOk result × (into.new ≡ x) × (self.new ≡ self.old)) }
         ensures list { F.tells → self.old.live ≡ true → OnOk result (current self.old.staged (F.pages self.old.flash) page ≡ Some into.new) }
         // After a commit that failed the pages that were not staged are read where they are.
-        ensures home { F.tells → self.old.settled ≡ true → staged self.old.staged page ≡ None → OnOk result (slice_get (F.pages self.old.flash) page ≡ Some into.new) }
+        ensures home { F.tells → self.old.settled ≡ true → staged_at self.old.staged page ≡ None → OnOk result (slice_get (F.pages self.old.flash) page ≡ Some into.new) }
         ensures same { (self.new.staged ≡ self.old.staged) × (self.new.settled ≡ self.old.settled) × (self.new.live ≡ self.old.live) }
         ensures pages { F.tells → F.pages self.new.flash ≡ F.pages self.old.flash }
         ensures loss { F.tells → NoneNew (F.may_leave self.old.flash) (F.may_leave self.new.flash) }
@@ -145,7 +145,7 @@ impl<F: Flash> PageStore<F> {
             *into = *staged;
             return Ok(());
         }
-        let place = place_behind(&self.journal, page);
+        let place = place_after(&self.journal, page);
         self.flash.read(place, into)
     }
 
@@ -154,7 +154,7 @@ impl<F: Flash> PageStore<F> {
         requires live { self.old.live ≡ true }
         requires settled { self.old.settled ≡ true }
         requires range { IsStorePage page }
-        requires room { IsSome (staged self.old.staged page) ⊎ (length self.old.staged < FRAMES) }
+        requires room { IsSome (staged_at self.old.staged page) ⊎ (length self.old.staged < FRAMES) }
         ensures { self.new ≡ record self.old { staged = with_page self.old.staged page from.now } }
     {
         *self.pool.stage(page) = *from;
@@ -166,10 +166,10 @@ impl<F: Flash> PageStore<F> {
         requires live { self.old.live ≡ true }
         requires settled { self.old.settled ≡ true }
         requires range { IsLoadPage page }
-        ensures written { F.tells → OnOk result (stored (F.pages self.new.flash) page ≡ Some from.now) }
-        ensures others { F.tells → (other : ℕ) → other ≢ page → stored (F.pages self.new.flash) other ≡ stored (F.pages self.old.flash) other }
-        ensures moments { F.tells → (loose : List ℕ) → Always (F.may_leave self.old.flash) (Leaves (stored (F.pages self.old.flash)) loose)
-            → LeavesOnly F.Flash self.old.flash self.new.flash (Leaves (stored (F.pages self.old.flash)) (page ∷ loose)) }
+        ensures written { F.tells → OnOk result (stored_page (F.pages self.new.flash) page ≡ Some from.now) }
+        ensures others { F.tells → (other : ℕ) → other ≢ page → stored_page (F.pages self.new.flash) other ≡ stored_page (F.pages self.old.flash) other }
+        ensures moments { F.tells → (loose : List ℕ) → Always (F.may_leave self.old.flash) (Leaves (stored_page (F.pages self.old.flash)) loose)
+            → LeavesOnly F.Flash self.old.flash self.new.flash (Leaves (stored_page (F.pages self.old.flash)) (page ∷ loose)) }
         ensures same { (self.new.staged ≡ self.old.staged) × (self.new.settled ≡ true) × (self.new.live ≡ true) }
         ensures cause { HasCause (F.faults self.old.flash) (F.faults self.new.flash) result }
     {
@@ -183,10 +183,10 @@ impl<F: Flash> PageStore<F> {
         requires live { self.old.live ≡ true }
         requires settled { self.old.settled ≡ true }
         // At every moment power lost leaves the committed pages from before or those after.
-        ensures moments { F.tells → (loose : List ℕ) → Always (F.may_leave self.old.flash) (Leaves (stored (F.pages self.old.flash)) loose)
+        ensures moments { F.tells → (loose : List ℕ) → Always (F.may_leave self.old.flash) (Leaves (stored_page (F.pages self.old.flash)) loose)
             → LeavesOnly F.Flash self.old.flash self.new.flash
-            (LeavesEither (stored (F.pages self.old.flash)) loose (current self.old.staged (F.pages self.old.flash))) }
-        ensures list { F.tells → OnOk result (IsListed (current self.old.staged (F.pages self.old.flash)) (F.pages self.new.flash)) }
+            (LeavesEitherList (stored_page (F.pages self.old.flash)) loose (current self.old.staged (F.pages self.old.flash))) }
+        ensures list { F.tells → OnOk result (StandsForList (current self.old.staged (F.pages self.old.flash)) (F.pages self.new.flash)) }
         ensures only { F.tells → 0 < length self.old.staged → OnOk result (Only (F.pages self.new.flash) (F.may_leave self.new.flash)) }
         ensures idle { self.old.staged ≡ [] → IsOk result × (self.new ≡ self.old) }
         ensures ok { OnOk result ((self.new.staged ≡ []) × (self.new.settled ≡ true) × (self.new.live ≡ true)) }

@@ -1,6 +1,6 @@
 -- The one place where all commands are gone through: what is shown of each form, and that one form at most takes a command.
 use Rattle.std.proofs.Common.{ℕ, Bool, true, false, List, [], ◌∷◌}
-use Rattle.policy_machine.specs.Prelude.{AtMostOne, CommandForm, OneForm, Takes, forms_of, listed}
+use Rattle.policy_machine.specs.Prelude.{AtMostOne, CommandForm, OneForm, Takes, forms_if, forms_of}
 use Rattle.policy_machine.proofs.CardStatusForm.{card_status_laws}
 use Rattle.policy_machine.proofs.DeleteForms.{deletions_apart}
 use Rattle.policy_machine.proofs.DeleteKeyForm.{delete_key_laws}
@@ -49,7 +49,7 @@ alone : (form : CommandForm) → FormLaws form → AreForms (form ∷ [])
 alone form laws = beside form [] laws (λ ins p1 p2 body takes other. other) none
 
 -- the instruction has these forms, or it is another
-either : (test : Bool) (these others : List CommandForm) → AreForms these → AreForms others → AreForms (listed test these others)
+either : (test : Bool) (these others : List CommandForm) → AreForms these → AreForms others → AreForms (forms_if test these others)
 either true these others these_are others_are = these_are
 either false these others these_are others_are = others_are
 

@@ -5,7 +5,7 @@ use Rattle.card_types.proofs.LeastOfList.{found_fits}
 use Rattle.card_types.proofs.MappedEntries.{find_mapped}
 use Rattle.card_types.proofs.NamedThings.{aid_cases, aid_differs}
 use Rattle.card_types.proofs.SameAid.{same_aid_decides}
-use Rattle.policy_machine.specs.Prelude.{Admitted, Effect, Entry, IsAnswered, IsConfirmed, IsReceipter, Key, Registry, acting, entry_named, number_of, receipt, receipt_generation, same_aid, unique_data, with_receipts}
+use Rattle.policy_machine.specs.Prelude.{Admitted, Effect, Entry, IsAnswered, IsConfirmed, IsReceipter, Key, Registry, acting, entry_named, last_receipt, receipt, receipt_generation, same_aid, unique_data, with_receipts}
 use Rattle.std.proofs.lemmas.Bool.{cond_both}
 use Rattle.policy_machine.proofs.Approved.{one_holder}
 use Rattle.policy_machine.proofs.Lawful.{some_same}
@@ -19,7 +19,7 @@ pub record Rises (admitted : Admitted) (confirms : List (List ℕ) → Type 0) (
 
 abbrev pub AllRise : Admitted → (List (List ℕ) → Type 0) → Effect → Type 0
 AllRise admitted confirms done =
-    (domain : List ℕ) (before after : ℕ) → number_of admitted.at.registry domain ≡ Some before → number_of done.state.registry domain ≡ Some after
+    (domain : List ℕ) (before after : ℕ) → last_receipt admitted.at.registry domain ≡ Some before → last_receipt done.state.registry domain ≡ Some after
     → Rises admitted confirms done domain before after
 
 -- what no domain confirms
@@ -46,7 +46,7 @@ module _ (registry : Registry) (aid : List ℕ) (number : ℕ) where
   found_aid : (x : List ℕ) (entry : Entry) → entry_named registry x ≡ Some entry → entry.aid ≡ x
   found_aid x entry named = (same_aid_decides entry.aid x).0 (found_fits (λ (e : Entry). same_aid e.aid x) registry.entries entry named).1
 
-  number_set : (n : ℕ) → number_of (with_receipts registry aid number) aid ≡ Some n → n ≡ number
+  number_set : (n : ℕ) → last_receipt (with_receipts registry aid number) aid ≡ Some n → n ≡ number
   number_set n is = by (entry_named registry aid) refl (sym (ap receipts_in (numbered aid)) ∙ is)
     where
       by : (o : Option Entry) → entry_named registry aid ≡ o → receipts_in (option_map change o) ≡ Some n → n ≡ number
@@ -55,7 +55,7 @@ module _ (registry : Registry) (aid : List ℕ) (number : ℕ) where
           (let set = ap (λ b. (cond b (record entry { receipts = number }) entry).receipts) ((same_aid_decides entry.aid aid).1 (found_aid aid entry named)) in
           sym (some_same (change entry).receipts n on) ∙ set)
 
-  number_stays : (x : List ℕ) → x ≢ aid → number_of (with_receipts registry aid number) x ≡ number_of registry x
+  number_stays : (x : List ℕ) → x ≢ aid → last_receipt (with_receipts registry aid number) x ≡ last_receipt registry x
   number_stays x other = ap receipts_in (numbered x) ∙ by (entry_named registry x) refl
     where
       by : (o : Option Entry) → entry_named registry x ≡ o → receipts_in (option_map change o) ≡ receipts_in o
@@ -78,20 +78,20 @@ module _ (delegated : Type 0) (admitted : Admitted) (about : List (List ℕ)) (c
     | inr other ↦ record {
       confirmed = λ aids key these receipter. absurd (other (one_holder admitted.at.registry receipt_generation 0x71 (acting admitted) domain by.receipter key by.key receipter by.is_receipter).0);
       same = λ none. kept domain before after was (sym (number_stays changed by.receipter (by.entry.receipts + 1) domain other)
-          ∙ subst (λ (r : Registry). number_of r domain ≡ Some after) by.registry is);
+          ∙ subst (λ (r : Registry). last_receipt r domain ≡ Some after) by.registry is);
     }
   ]
     where
       number : domain ≡ by.receipter → after ≡ by.entry.receipts + 1
       number same =
           number_set changed by.receipter (by.entry.receipts + 1) after
-          (subst (λ (x : List ℕ). number_of (with_receipts changed by.receipter (by.entry.receipts + 1)) x ≡ Some after) same
-          (subst (λ (r : Registry). number_of r domain ≡ Some after) by.registry is))
+          (subst (λ (x : List ℕ). last_receipt (with_receipts changed by.receipter (by.entry.receipts + 1)) x ≡ Some after) same
+          (subst (λ (r : Registry). last_receipt r domain ≡ Some after) by.registry is))
 
       before_is : domain ≡ by.receipter → by.entry.receipts ≡ before
       before_is same =
           some_same by.entry.receipts before
-          (sym (ap receipts_in by.named) ∙ subst (λ (x : List ℕ). number_of admitted.at.registry x ≡ Some before) same was)
+          (sym (ap receipts_in by.named) ∙ subst (λ (x : List ℕ). last_receipt admitted.at.registry x ≡ Some before) same was)
 
       rises : domain ≡ by.receipter → after ≡ before + 1
       rises same = number same ∙ ap (λ n. n + 1) (before_is same)

@@ -1,6 +1,6 @@
 -- The forms of DELETE: the first byte of the data field tells which one takes a command.
 use Rattle.std.proofs.Common.{◌≡◌, inl, inr, ℕ, List, [], ◌∷◌, ◌++◌, Option, None, Some, ap, sym, subst, ◌∙◌, arith, append_assoc}
-use Rattle.policy_machine.specs.Prelude.{AsksToDelete, AsksToDeleteKey, Chooses, DeletionAsked, IsMalformed, IsRefusedBy, KeyChosen, TagBytes, TagGoesOn, command_form, managed_delete_key, managed_delete_object}
+use Rattle.policy_machine.specs.Prelude.{AsksToDelete, AsksToDeleteKey, Chooses, DeletionAsked, FormRefuses, IsMalformed, KeyChosen, TagBytes, TagGoesOn, command_form, managed_delete_key, managed_delete_object}
 use Rattle.policy_machine.proofs.InstallForms.{AreApart}
 use Rattle.policy_machine.specs.declared.rule.Rule.{Rule}
 
@@ -33,7 +33,7 @@ deletions_apart ins p1 p2 body takes (inl other) = fields_apart body other.2.0 o
 deletions_apart ins p1 p2 body takes (inr none) = none
 
 -- where neither form takes a command, the rule on the form of an object is that of the command
-pub deletion_malformed : (p1 p2 : ℕ) (body : List ℕ) (first found : Rule) → IsRefusedBy (command_form managed_delete_key) p1 p2 body first → IsRefusedBy (command_form managed_delete_object) p1 p2 body found
+pub deletion_malformed : (p1 p2 : ℕ) (body : List ℕ) (first found : Rule) → FormRefuses (command_form managed_delete_key) p1 p2 body first → FormRefuses (command_form managed_delete_object) p1 p2 body found
     → IsMalformed 0xE4 p1 p2 body found
 deletion_malformed p1 p2 body first found no_key (inl (is, other)) =
     inl (
@@ -59,6 +59,6 @@ deletion_malformed p1 p2 body first found no_key (inr (is, takes, no_field)) =
       ],
     )
   where
-    no_choice : IsRefusedBy (command_form managed_delete_key) p1 p2 body first → (chosen : KeyChosen) × AsksToDeleteKey body chosen → ⊥
+    no_choice : FormRefuses (command_form managed_delete_key) p1 p2 body first → (chosen : KeyChosen) × AsksToDeleteKey body chosen → ⊥
     no_choice (inl (_, other)) chooses = other takes
     no_choice (inr (_, _, no_field)) chooses = no_field chooses

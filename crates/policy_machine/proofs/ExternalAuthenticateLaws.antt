@@ -1,7 +1,7 @@
 -- The laws of EXTERNAL AUTHENTICATE.
 use Rattle.std.proofs.Common.{◌≡◌, ℕ, refl, sym, ap, subst, ◌∙◌}
 use Rattle.std.specs.Prelude.{◌==◌, if◌then◌else◌}
-use Rattle.policy_machine.specs.Prelude.{Admitted, Effect, ExternalAuthenticateEffect, ExternalAuthenticateFails, Fits, FormFails, HasCryptogram, HasMac, IsFirst, IsSound, Judges, Offer, Secured, TakesCommand, Volatile, answered, code_of, external_authenticate, external_authenticate_rules, offer_on, rules_before_form, with_secure_channel}
+use Rattle.policy_machine.specs.Prelude.{Admitted, Effect, ExternalAuthenticateEffect, ExternalAuthenticateFails, Fits, FormFails, HasCryptogram, HasMac, IsFirst, IsSound, Judges, Offer, Secured, TakesCommand, Volatile, code_of, external_authenticate, external_authenticate_rules, offer_on, rules_before_form, session_from, with_secure_channel}
 use Rattle.policy_machine.proofs.SecureChannelSet.{offer_stands, secured_fits}
 use Rattle.card_types.proofs.OneOfCode.{level_by_code}
 use Rattle.card_types.specs.declared.level.Level.{Level}
@@ -9,7 +9,7 @@ use Rattle.policy_machine.proofs.SameEffect.{effect_same, state_same}
 use Rattle.policy_machine.proofs.Lawful.{IsLawful, IsReady, place_leaves_secure_channel, same_as, some_same, sound_with}
 use Rattle.std.proofs.Common.{Bool, true, false, List, [], ◌∷◌, ◌++◌, Option, None, Some, inl, inr}
 use Rattle.std.proofs.lemmas.Bool.{eqb-true}
-use Rattle.policy_machine.proofs.Judging.{BeginPasses, judged_behind}
+use Rattle.policy_machine.proofs.Judging.{BeginPasses, judged_after}
 use Rattle.policy_machine.specs.declared.external_authenticate.RuleEA.TheVariants.{EA1, EA2, EA3}
 use Rattle.policy_machine.specs.declared.rule.RulePS.TheVariants.{P, S}
 use Rattle.policy_machine.specs.declared.rule.Rule.{Rule}
@@ -20,7 +20,7 @@ external_authenticate_keeps admitted done ready does =
     let registry = admitted.at.registry in
     let volatile = admitted.at.volatile in
     let stands = offer_stands registry volatile admitted.channel ready.sound.fits ready.low does.offer does.answers.0 in
-    let fits = secured_fits registry volatile admitted.channel ready.sound.fits ready.low (answered does.offer does.level) stands in
+    let fits = secured_fits registry volatile admitted.channel ready.sound.fits ready.low (session_from does.offer does.level) stands in
     sound_with admitted.at done.state ready.sound does.registry (subst (Fits registry) (sym does.volatile) fits)
 
 external_authenticate_one : (admitted : Admitted) (a b : Effect) → ExternalAuthenticateEffect admitted a → ExternalAuthenticateEffect admitted b → a ≡ b
@@ -29,7 +29,7 @@ external_authenticate_one admitted a b one other =
     let levels = level_by_code one.level other.level (one.answers.1 ∙ sym other.answers.1) in
     effect_same a b
     (state_same a.state b.state (one.registry ∙ sym other.registry)
-    (one.volatile ∙ (λ i. with_secure_channel admitted.at.volatile admitted.channel (Secured (answered (offers i) (levels i)))) ∙ sym other.volatile))
+    (one.volatile ∙ (λ i. with_secure_channel admitted.at.volatile admitted.channel (Secured (session_from (offers i) (levels i)))) ∙ sym other.volatile))
     (one.body ∙ sym other.body)
     (one.status ∙ sym other.status)
 
@@ -63,7 +63,7 @@ pub answer_judged : (admitted : Admitted) (found : Option Rule) → TakesCommand
     → (offer_on admitted.at.volatile admitted.channel ≡ None → ⊥) → IsFirst (ExternalAuthenticateFails admitted) external_authenticate_rules found
     → Judges admitted found
 answer_judged admitted found takes offered first =
-    judged_behind external_authenticate (λ holds is. inl is) admitted takes (begin_passes admitted (λ is. offered)) found first
+    judged_after external_authenticate (λ holds is. inl is) admitted takes (begin_passes admitted (λ is. offered)) found first
 
 -- how an answer to an offer is judged
 module _ (admitted : Admitted) (level : Level) (body : List ℕ) (takes : TakesCommand external_authenticate admitted.command)

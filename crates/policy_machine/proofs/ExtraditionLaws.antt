@@ -4,7 +4,7 @@ use Rattle.std.specs.Prelude.{MatchOption}
 use Rattle.std.proofs.lemmas.Bool.{cases_Bool}
 use Rattle.card_types.proofs.MovedThing.{moved_keeps}
 use Rattle.card_types.proofs.NamedThings.{aid_cases}
-use Rattle.policy_machine.specs.Prelude.{Admitted, AsksToExtradite, Entry, ExtraditingFails, InstallData, IsFirst, IsJudgeable, IsOfCard, MayMove, command_form, domain_of, entry_named, is_domain, managed_extradition, moved}
+use Rattle.policy_machine.specs.Prelude.{Admitted, AsksToExtradite, Entry, ExtraditingFails, InstallData, IsFirst, IsJudgeable, IsOfCard, MayMove, command_form, domain_of, entry_named, is_domain, managed_extradition, with_thing_in_domain}
 use Rattle.domain_tree.proofs.Paths.{off_line}
 use Rattle.policy_machine.specs.declared.extradition.RuleEX.TheVariants.{EX2, EX3, EX6}
 use Rattle.policy_machine.proofs.Lawful.{sound_of_card}
@@ -40,19 +40,19 @@ extradition_judgeable = record { one_asked = λ p1 p2 body a b one other. one_da
 
 -- its own rules leave the thing in its new domain
 module _ (admitted : Admitted) (given : InstallData) (of : IsOfCard admitted.at.registry) (own : OwnPass managed_extradition.judged admitted given) where
-  moved_follows : IsOfCard (moved admitted.at.registry given.third given.first)
+  moved_follows : IsOfCard (with_thing_in_domain admitted.at.registry given.third given.first)
   moved_follows =
       moved_keeps admitted.at.registry given.third given.first of
       (may_move admitted given (own EX2 (1, omega arith, refl)) (own EX3 (2, omega arith, refl)) (own EX6 (5, omega arith, refl)))
 
 -- the registry with the thing in its new domain is one that a card may have
 pub moved_of_card : (admitted : Admitted) (given : InstallData) → AsksToExtradite admitted.command.body given → IsOfCard admitted.at.registry
-    → IsFirst ((command_form managed_extradition).fails admitted) (command_form managed_extradition).rules None → IsOfCard (moved admitted.at.registry given.third given.first)
+    → IsFirst ((command_form managed_extradition).fails admitted) (command_form managed_extradition).rules None → IsOfCard (with_thing_in_domain admitted.at.registry given.third given.first)
 moved_of_card admitted given asks of first = moved_follows admitted given of (own_pass managed_extradition.judged extradition_judgeable admitted given asks first)
 
 pub managed_extradition_lawful : IsManagedLawful managed_extradition
 managed_extradition_lawful =
-    leaves_one managed_extradition.judged (λ admitted given. moved admitted.at.registry given.third given.first) managed_extradition.reply extradition_judgeable
+    leaves_one managed_extradition.judged (λ admitted given. with_thing_in_domain admitted.at.registry given.third given.first) managed_extradition.reply extradition_judgeable
     (λ admitted delegated. receipt_judged)
     (λ admitted given passed. record {
       of = moved_follows admitted given (sound_of_card passed.sound) passed.own;

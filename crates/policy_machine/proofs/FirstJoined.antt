@@ -12,10 +12,10 @@ module _ {R : Type 0} (fails : R → Type 0) (behind : List R) where
   first_within (next ∷ rules) rule (inr later) = inr (later.0, first_within rules rule later.1)
 
   -- none is
-  pub first_behind : (rules : List R) (found : Option R) → IsFirst fails rules None → IsFirst fails behind found → IsFirst fails (rules ++ behind) found
-  first_behind [] found none first = first
-  first_behind (next ∷ rules) found (inl here) first = (let clash = here.1 in cc)
-  first_behind (next ∷ rules) found (inr later) first = inr (later.0, first_behind rules found later.1 first)
+  pub first_after : (rules : List R) (found : Option R) → IsFirst fails rules None → IsFirst fails behind found → IsFirst fails (rules ++ behind) found
+  first_after [] found none first = first
+  first_after (next ∷ rules) found (inl here) first = (let clash = here.1 in cc)
+  first_after (next ∷ rules) found (inr later) first = inr (later.0, first_after rules found later.1 first)
 
   -- a refusal by the first list is handed on
   pub refused_within : {T : Type 0} (rules : List R) (result : Result T R) (rule : R) → IsErrAnd result (λ r. r ≡ rule)
@@ -25,12 +25,12 @@ module _ {R : Type 0} (fails : R → Type 0) (behind : List R) where
       subst (λ (r : R). IsFirst fails (rules ++ behind) (Some r)) (sym handed) (first_within rules rule first)
 
   -- what the second list says is so of both
-  pub passed_behind : {T : Type 0} (rules : List R) (result : Result T R) → IsFirst fails rules None → OnOk result (IsFirst fails behind None)
+  pub passed_after : {T : Type 0} (rules : List R) (result : Result T R) → IsFirst fails rules None → OnOk result (IsFirst fails behind None)
       → OnOk result (IsFirst fails (rules ++ behind) None)
-  passed_behind rules (Ok value) none first = first_behind rules None none first
-  passed_behind rules (Err rule) none first = first
+  passed_after rules (Ok value) none first = first_after rules None none first
+  passed_after rules (Err rule) none first = first
 
-  pub refused_behind : {T : Type 0} (rules : List R) (result : Result T R) → IsFirst fails rules None → IfErr result (λ r. IsFirst fails behind (Some r))
+  pub refused_after : {T : Type 0} (rules : List R) (result : Result T R) → IsFirst fails rules None → IfErr result (λ r. IsFirst fails behind (Some r))
       → IfErr result (λ r. IsFirst fails (rules ++ behind) (Some r))
-  refused_behind rules (Ok value) none first = first
-  refused_behind rules (Err rule) none first = first_behind rules (Some rule) none first
+  refused_after rules (Ok value) none first = first
+  refused_after rules (Err rule) none first = first_after rules (Some rule) none first

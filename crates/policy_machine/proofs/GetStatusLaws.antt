@@ -5,7 +5,7 @@ use Rattle.policy_machine.proofs.Lawful.{IsLawful, IsReady, same_as, sound_with,
 use Rattle.policy_machine.proofs.SameEffect.{effect_same, state_same}
 use Rattle.policy_machine.proofs.SecureChannelSet.{within}
 use Rattle.policy_machine.proofs.SetChannel.{becomes_fits}
-use Rattle.policy_machine.proofs.GetStatusParts.{IsFullBehind, one_listing, one_part, one_templates}
+use Rattle.policy_machine.proofs.GetStatusParts.{IsFullAfter, one_listing, one_part, one_templates}
 
 -- a channel has what it had, with another place
 place_fits : (registry : Registry) (volatile : Volatile) (number : ℕ) (place : Place) → Fits registry volatile → number < 4
@@ -37,7 +37,7 @@ left_loads : (admitted : Admitted) (done : Effect) (shown left : List Thing) →
 left_loads admitted done shown [] at = inl (ap (λ (v : Volatile). v.load) at.0)
 left_loads admitted done shown (next ∷ left) at = inl (ap (λ (v : Volatile). v.load) at.0)
 
-full_from_first : (registry : Registry) (p1 : ℕ) (left : List Thing) (bytes : List ℕ) → IsFullFor registry p1 left bytes → IsFullBehind registry p1 0 left bytes
+full_from_first : (registry : Registry) (p1 : ℕ) (left : List Thing) (bytes : List ℕ) → IsFullFor registry p1 left bytes → IsFullAfter registry p1 0 left bytes
 full_from_first registry p1 [] bytes full = tt
 full_from_first registry p1 (next ∷ left) bytes (template, is, above) = (template, is, omega (arith, above))
 

@@ -34,21 +34,21 @@ module _ (registry : Registry) (p1 : ℕ) where
       joined ∙ ap (λ z. z ++ rest) (one_template thing first front is too) ∙ ap (λ z. front ++ z) (one_templates things rest more are also) ∙ sym split
 
   -- after so many bytes the next of the things that are left does not fit
-  abbrev pub IsFullBehind : ℕ → List Thing → List ℕ → Type 0
-  IsFullBehind number [] bytes = Unit {0}
-  IsFullBehind number (next ∷ left) bytes = (template : List ℕ) × IsTemplate registry p1 next template × (part_limit < number + length bytes + length template)
+  abbrev pub IsFullAfter : ℕ → List Thing → List ℕ → Type 0
+  IsFullAfter number [] bytes = Unit {0}
+  IsFullAfter number (next ∷ left) bytes = (template : List ℕ) × IsTemplate registry p1 next template × (part_limit < number + length bytes + length template)
 
   -- what fits in whole has no template that does not
   too_long : (number : ℕ) (left : List Thing) (thing : Thing) (more rest bytes : List ℕ) (things : List Thing)
-      → left ≡ thing ∷ things → IsFullBehind number left [] → IsTemplate registry p1 thing more → bytes ≡ more ++ rest → number + length bytes ≤ part_limit → ⊥
+      → left ≡ thing ∷ things → IsFullAfter number left [] → IsTemplate registry p1 thing more → bytes ≡ more ++ rest → number + length bytes ≤ part_limit → ⊥
   too_long number [] thing more rest bytes things is full template joined fits = cc
   too_long number (next ∷ left) thing more rest bytes things is (template, spelled, above) here joined fits =
       let alike : next ≡ thing = cc in
       let same = one_template thing template more (subst (λ (t : Thing). IsTemplate registry p1 t template) alike spelled) here in
       omega (arith, above, fits, ap length same, ap length joined, length-append more rest)
 
-  full_rest : (number : ℕ) (left : List Thing) (bytes first rest : List ℕ) → bytes ≡ first ++ rest → IsFullBehind number left bytes
-      → IsFullBehind (number + length first) left rest
+  full_rest : (number : ℕ) (left : List Thing) (bytes first rest : List ℕ) → bytes ≡ first ++ rest → IsFullAfter number left bytes
+      → IsFullAfter (number + length first) left rest
   full_rest number [] bytes first rest joined full = tt
   full_rest number (next ∷ left) bytes first rest joined (template, is, above) =
       (template, is, omega (arith, above, ap length joined, length-append first rest))
@@ -56,12 +56,12 @@ module _ (registry : Registry) (p1 : ℕ) where
   -- two first parts of one list, as long as they can be, are one
   pub one_part : (number : ℕ) (shown left others rest : List Thing) (a b : List ℕ) → shown ++ left ≡ others ++ rest
       → AreTemplates registry p1 shown a → AreTemplates registry p1 others b → number + length a ≤ part_limit → number + length b ≤ part_limit
-      → IsFullBehind number left a → IsFullBehind number rest b → (shown ≡ others) × (left ≡ rest)
+      → IsFullAfter number left a → IsFullAfter number rest b → (shown ≡ others) × (left ≡ rest)
   one_part number [] left [] rest a b same one other fits fit full end = (refl, same)
   one_part number [] left (thing ∷ others) rest a b same one (first, more, is, are, joined) fits fit full end =
-      absurd (too_long number left thing first more b (others ++ rest) same (subst (IsFullBehind number left) one full) is joined fit)
+      absurd (too_long number left thing first more b (others ++ rest) same (subst (IsFullAfter number left) one full) is joined fit)
   one_part number (thing ∷ shown) left [] rest a b same (first, more, is, are, joined) other fits fit full end =
-      absurd (too_long number rest thing first more a (shown ++ left) (sym same) (subst (IsFullBehind number rest) other end) is joined fits)
+      absurd (too_long number rest thing first more a (shown ++ left) (sym same) (subst (IsFullAfter number rest) other end) is joined fits)
   one_part number (thing ∷ shown) left (another ∷ others) rest a b same (first, more, is, are, joined) (front, behind, too, also, split) fits fit full end =
       let alike : another ≡ thing = cc in
       let later : shown ++ left ≡ others ++ rest = cc in
@@ -70,7 +70,7 @@ module _ (registry : Registry) (p1 : ℕ) where
       (omega (arith, fits, ap length joined, length-append first more))
       (omega (arith, fit, ap length split, length-append front behind, size))
       (full_rest number left a first more joined full)
-      (subst (λ (n : ℕ). IsFullBehind (number + n) rest behind) size (full_rest number rest b front behind split end)) in
+      (subst (λ (n : ℕ). IsFullAfter (number + n) rest behind) size (full_rest number rest b front behind split end)) in
       ((λ i. thing_same (sym alike) parts.0 i), parts.1)
     where
       thing_same : {x y : Thing} {xs ys : List Thing} → x ≡ y → xs ≡ ys → x ∷ xs ≡ y ∷ ys

@@ -1,7 +1,7 @@
 -- The laws of INITIALIZE UPDATE.
 use Rattle.std.proofs.Common.{◌≡◌, ◌≢◌, ℕ, List, [], ◌∷◌, false, None, refl, sym, ap, subst, ◌∙◌, arith, Option, inl}
 use Rattle.std.specs.Prelude.{◌==◌, map}
-use Rattle.policy_machine.specs.Prelude.{Admitted, AsksForSet, Counter, Effect, InitializeUpdateEffect, InitializeUpdateFails, IsFirst, IsOfferOf, IsSameButCounters, IsSound, Judges, JudgesAs, Offer, TakesCommand, UsesSet, Volatile, acting, initialize_update, offer_body, offer_rules, raised, raised_counter, set_counter, with_secure_channel, without_number}
+use Rattle.policy_machine.specs.Prelude.{Admitted, AsksForSet, Counter, Effect, InitializeUpdateEffect, InitializeUpdateFails, IsFirst, IsOfferOf, IsSameButCounters, IsSound, Judges, JudgesAs, Offer, TakesCommand, UsesSet, Volatile, acting, initialize_update, offer_body, offer_rules, raised_counter, set_counter, with_counter_raised, with_secure_channel, without_number}
 use Rattle.card_types.specs.declared.limits.TheConstants.{COUNTER_LIMIT}
 use Rattle.policy_machine.specs.State.{Offered}
 use Rattle.policy_machine.specs.declared.initialize_update.RuleIU.TheVariants.{IU3}
@@ -11,7 +11,7 @@ use Rattle.policy_machine.proofs.FirstUnique.{none_fails}
 use Rattle.policy_machine.proofs.InitializeUpdateOffer.{raised_ascending, raised_fits, set_raised_well, well_offer}
 use Rattle.policy_machine.proofs.SecureChannelSet.{unloaded_fits}
 use Rattle.policy_machine.proofs.SameEffect.{effect_same, state_same}
-use Rattle.scp03_card.specs.Offer.{offered}
+use Rattle.scp03_card.specs.Offer.{new_offer}
 use Rattle.policy_machine.proofs.Lawful.{IsLawful, IsReady, place_leaves_secure_channel, some_same}
 use Rattle.policy_machine.proofs.OneSet.{owner_one}
 use Rattle.card_types.specs.Registry as registry
@@ -38,7 +38,7 @@ initialize_update_keeps admitted done ready (takes, first) does =
     let fits = unloaded_fits registry admitted.at.volatile admitted.channel ready.sound.fits ready.low (Offered does.offer) (ready.loads apart.2)
     (ready.domain apart.0 apart.1, offered) in
     let goes_on = counter_goes_on admitted first does.owner does.counter does.asked in
-    let sound : IsSound (record { registry = raised registry does.owner does.counter.version; volatile = after }) = record {
+    let sound : IsSound (record { registry = with_counter_raised registry does.owner does.counter.version; volatile = after }) = record {
       well = set_raised_well registry does.owner admitted.command.p1 does.counter ready.sound.well ready.sound.ascending does.asked.1 goes_on;
       ascending = raised_ascending registry does.owner does.counter.version ready.sound.ascending;
       fits = raised_fits registry does.owner does.counter.version after fits;
@@ -52,7 +52,7 @@ offer_one admitted owner counter a b one other =
     let enc = ap (λ (k : registry.Key). k.bytes) (some_same one.enc other.enc (sym one.key_enc ∙ other.key_enc)) in
     let mac = ap (λ (k : registry.Key). k.bytes) (some_same one.mac other.mac (sym one.key_mac ∙ other.key_mac)) in
     let dek = ap (λ (k : registry.Key). k.bytes) (some_same one.dek other.dek (sym one.key_dek ∙ other.key_dek)) in
-    one.is ∙ (λ i. offered (enc i) (mac i) (dek i) counter.number (acting admitted) admitted.command.body) ∙ sym other.is
+    one.is ∙ (λ i. new_offer (enc i) (mac i) (dek i) counter.number (acting admitted) admitted.command.body) ∙ sym other.is
 
 set_one : (said : registry.Registry) (domain : List ℕ) (version : ℕ) (o p : List ℕ) (a b : registry.Counter)
     → UsesSet said domain version o a → UsesSet said domain version p b → (o ≡ p) × (a ≡ b)
@@ -72,7 +72,7 @@ initialize_update_one admitted a b one other =
     let versions = ap (λ (c : registry.Counter). c.version) counters in
     effect_same a b
     (state_same a.state b.state
-    (one.registry ∙ (λ i. raised said (owners i) (versions i)) ∙ sym other.registry)
+    (one.registry ∙ (λ i. with_counter_raised said (owners i) (versions i)) ∙ sym other.registry)
     (one.volatile ∙ ap (λ (o : Offer). with_secure_channel admitted.at.volatile admitted.channel (Offered o)) offers ∙ sym other.volatile))
     (one.body ∙ (λ i. offer_body said (owners i) (counters i) (offers i)) ∙ sym other.body)
     (one.status ∙ sym other.status)

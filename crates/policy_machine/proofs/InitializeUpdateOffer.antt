@@ -6,7 +6,7 @@ use Rattle.std.proofs.lemmas.List.Elements.{All-contains}
 use Rattle.card_types.proofs.LeastOfList.{found_fits, names_sorted}
 use Rattle.card_types.proofs.RaisedCounter.{counter_found, raised_found_well}
 use Rattle.card_types.proofs.SameAid.{same_aid_decides}
-use Rattle.policy_machine.specs.Prelude.{Admitted, Counter, Fits, IsAscending, IsOfferOf, IsWellCounter, IsWellKey, IsWellOffer, Key, Offer, Registry, Volatile, Well, acting, counter_order, key_named, raised, raised_counter, same_aid, set_counter}
+use Rattle.policy_machine.specs.Prelude.{Admitted, Counter, Fits, IsAscending, IsOfferOf, IsWellCounter, IsWellKey, IsWellOffer, Key, Offer, Registry, Volatile, Well, acting, counter_order, key_named, raised_counter, same_aid, set_counter, with_counter_raised}
 use Rattle.card_types.specs.declared.limits.TheConstants.{COUNTER_LIMIT}
 use Rattle.policy_machine.proofs.SameThings.{same_fits}
 use Rattle.scp03_card.proofs.Lengths.{length-card_challenge}
@@ -53,7 +53,7 @@ below_limit n most other = omega arith
 
 module _ (registry : Registry) (owner : List ℕ) where
   pub set_raised_well : (version : ℕ) (counter : Counter) → Well registry → IsAscending registry → set_counter registry owner version ≡ Some counter
-      → counter.number ≢ COUNTER_LIMIT → Well (raised registry owner counter.version)
+      → counter.number ≢ COUNTER_LIMIT → Well (with_counter_raised registry owner counter.version)
   set_raised_well version counter well ascending found other =
       let of = counter_of_set registry owner version counter found in
       let owned = (same_aid_decides counter.owner owner).0 of.1 in
@@ -62,7 +62,7 @@ module _ (registry : Registry) (owner : List ℕ) where
       (counter_found registry owner counter.version ascending.counters counter of.0 owned refl) (below_limit counter.number is.number other) well
 
   module _ (version : ℕ) where
-    pub raised_ascending : IsAscending registry → IsAscending (raised registry owner version)
+    pub raised_ascending : IsAscending registry → IsAscending (with_counter_raised registry owner version)
     raised_ascending ascending = record {
       entries = ascending.entries;
       files = ascending.files;
@@ -71,5 +71,5 @@ module _ (registry : Registry) (owner : List ℕ) where
       objects = ascending.objects;
     }
 
-    pub raised_fits : (volatile : Volatile) → Fits registry volatile → Fits (raised registry owner version) volatile
+    pub raised_fits : (volatile : Volatile) → Fits registry volatile → Fits (with_counter_raised registry owner version) volatile
     raised_fits = same_fits registry registry.life registry.keys (map (raised_counter owner version) registry.counters) registry.objects

@@ -7,7 +7,7 @@ use Rattle.card_types.proofs.PrivilegeFacts.{bits_of-bytes}
 use Rattle.card_types.specs.declared.privileges.Privileges.{Privileges}
 use Rattle.policy_machine.proofs.Filtered.{any_there, there_any}
 use Rattle.policy_machine.proofs.LengthFields.{one_data}
-use Rattle.policy_machine.proofs.StoreDataElements.{elements_behind, elements_with, none_left, one_list}
+use Rattle.policy_machine.proofs.StoreDataElements.{elements_after, elements_with, none_left, one_list}
 use Rattle.policy_machine.proofs.ManagedJudging.{delegation_asked}
 
 abbrev pub AreSome : List ℕ → Type 0
@@ -17,9 +17,9 @@ AreSome bytes = (elements : List Element) × AreElements elements bytes
 pub some_with : (tag : ℕ) (value rest bytes : List ℕ) → BeginsWith tag value rest bytes → AreSome rest → AreSome bytes
 some_with tag value rest bytes begins (others, are) = (record { tag = tag; value = value } ∷ others, elements_with others tag value rest bytes begins are)
 
-pub some_behind : (tag : ℕ) (value rest bytes : List ℕ) → BeginsWith tag value rest bytes → AreSome bytes → AreSome rest
-some_behind tag value rest bytes begins (elements, are) =
-    (let behind = elements_behind elements tag value rest bytes are begins in (behind.0, behind.2))
+pub some_after : (tag : ℕ) (value rest bytes : List ℕ) → BeginsWith tag value rest bytes → AreSome bytes → AreSome rest
+some_after tag value rest bytes begins (elements, are) =
+    (let behind = elements_after elements tag value rest bytes are begins in (behind.0, behind.2))
 
 -- some bytes of which no element can be read are none
 pub no_elements : (bytes : List ℕ) → 0 < length bytes

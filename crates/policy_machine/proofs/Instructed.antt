@@ -40,10 +40,10 @@ each_byte test (first ∷ bytes) all byte there = by (test first) refl all (λ r
     by false is rest behind = cc
 
 -- what is not in the front is after it
-pub any_behind : (front rest : List ℕ) (byte : ℕ) → list_any (λ one. one == byte) front ≡ false
+pub any_after : (front rest : List ℕ) (byte : ℕ) → list_any (λ one. one == byte) front ≡ false
     → list_any (λ one. one == byte) (front ++ rest) ≡ list_any (λ one. one == byte) rest
-any_behind [] rest byte none = refl
-any_behind (first ∷ front) rest byte none = by (first == byte) none (any_behind front rest byte)
+any_after [] rest byte none = refl
+any_after (first ∷ front) rest byte none = by (first == byte) none (any_after front rest byte)
   where
     by : (test : Bool) → (test || list_any (λ one. one == byte) front) ≡ false
         → (list_any (λ one. one == byte) front ≡ false → list_any (λ one. one == byte) (front ++ rest) ≡ list_any (λ one. one == byte) rest)

@@ -28,8 +28,8 @@ module _ (form : CommandForm) (listed : IsListed form) (admitted : Admitted) (ta
   )
 
   -- the form's own rules are judged
-  pub judged_behind : BeginPasses admitted → (found : Option Rule) → IsFirst (form.fails admitted) form.rules found → Judges admitted found
-  judged_behind begins found first = inr (
+  pub judged_after : BeginPasses admitted → (found : Option Rule) → IsFirst (form.fails admitted) form.rules found → Judges admitted found
+  judged_after begins found first = inr (
     behind (FormFails admitted) (rules_before_form admitted.command.ins) (PS P ∷ PS S ∷ []) None begins form_passes,
     one_here (λ f. TakesCommand f admitted.command × IsFirst (f.fails admitted) f.rules found) (takes, first),
   )
@@ -37,7 +37,7 @@ module _ (form : CommandForm) (listed : IsListed form) (admitted : Admitted) (ta
   -- where none stands before them
   pub judged : rules_before_form form.instruction ≡ [] → (found : Option Rule) → IsFirst (form.fails admitted) form.rules found → Judges admitted found
   judged none found first =
-      judged_behind (subst (λ (rules : List Rule). IsFirst (FormFails admitted) rules None) (sym (ap rules_before_form takes.0 ∙ none)) refl) found first
+      judged_after (subst (λ (rules : List Rule). IsFirst (FormFails admitted) rules None) (sym (ap rules_before_form takes.0 ∙ none)) refl) found first
 
   pub does_so : (done : Effect) → form.does admitted done → HasEffect admitted done
   does_so done does = one_here (λ f. TakesCommand f admitted.command × f.does admitted done) (takes, does)

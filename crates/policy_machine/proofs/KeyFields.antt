@@ -124,9 +124,9 @@ last_field key bytes rest begins none =
     more_fields key bytes rest 0 [] begins (All-nil (has_size key.size)) (subst (λ (behind : List ℕ). AreFields 0 behind []) (sym (nil_from_length rest none)) no_fields)
 
 -- the key that the bytes begin with is the first of the fields' keys, and the others' are after it
-behind_first : (key : SentKey) (bytes rest : List ℕ) (count : ℕ) (first : SentKey) (keys : List SentKey) → BeginsWithKey key bytes rest
+after_first : (key : SentKey) (bytes rest : List ℕ) (count : ℕ) (first : SentKey) (keys : List SentKey) → BeginsWithKey key bytes rest
     → AreFields (suc count) bytes (first ∷ keys) → (key ≡ first) × AreFields count rest keys
-behind_first key bytes rest count first keys begins fields =
+after_first key bytes rest count first keys begins fields =
     let here = first_of_fields first keys bytes fields.each fields.spelled in (
       one_key key first bytes rest (concat (map key_field keys)) begins here,
       record {
@@ -144,7 +144,7 @@ none_here count bytes none (key ∷ keys) fields = none key _ (first_of_fields k
 
 pub none_later : (key : SentKey) (bytes rest : List ℕ) (count : ℕ) → BeginsWithKey key bytes rest → NoFields count rest → NoFields (suc count) bytes
 none_later key bytes rest count begins none [] fields = (let number = fields.number in absurd (omega arith))
-none_later key bytes rest count begins none (first ∷ keys) fields = none keys (behind_first key bytes rest count first keys begins fields).1
+none_later key bytes rest count begins none (first ∷ keys) fields = none keys (after_first key bytes rest count first keys begins fields).1
 
 -- where three keys have two lengths, the bytes are no key fields
 pub none_unlike : (enc mac dek : SentKey) (bytes second third rest : List ℕ) → BeginsWithKey enc bytes second → BeginsWithKey mac second third
@@ -159,17 +159,17 @@ none_unlike enc mac dek bytes second third rest one two three unlike (a ∷ b �
     let first : a.size ≡ size = All-head (has_size size) a (b ∷ c ∷ keys) all in
     let next : b.size ≡ size = All-head (has_size size) b (c ∷ keys) later in
     let last : c.size ≡ size = All-head (has_size size) c keys (All-tail (has_size size) b (c ∷ keys) later) in
-    let at_first = behind_first enc bytes second 2 a (b ∷ c ∷ keys) one fields in
-    let at_next = behind_first mac second third 1 b (c ∷ keys) two at_first.1 in
-    let at_last = behind_first dek third rest 0 c keys three at_next.1 in
+    let at_first = after_first enc bytes second 2 a (b ∷ c ∷ keys) one fields in
+    let at_next = after_first mac second third 1 b (c ∷ keys) two at_first.1 in
+    let at_last = after_first dek third rest 0 c keys three at_next.1 in
     let enc_size : enc.size ≡ size = ap (λ (k : SentKey). k.size) at_first.0 ∙ first in
     let mac_size : mac.size ≡ size = ap (λ (k : SentKey). k.size) at_next.0 ∙ next in
     let dek_size : dek.size ≡ size = ap (λ (k : SentKey). k.size) at_last.0 ∙ last in
     unlike (mac_size ∙ sym enc_size) (dek_size ∙ sym enc_size)
 
-pub none_behind : (bytes : List ℕ) → (length bytes ≡ 0 → ⊥) → NoFields 0 bytes
-none_behind bytes more [] fields = more (ap length fields.spelled)
-none_behind bytes more (key ∷ keys) fields = (let number = fields.number in absurd (omega arith))
+pub none_after : (bytes : List ℕ) → (length bytes ≡ 0 → ⊥) → NoFields 0 bytes
+none_after bytes more [] fields = more (ap length fields.spelled)
+none_after bytes more (key ∷ keys) fields = (let number = fields.number in absurd (omega arith))
 
 -- the keys of key fields
 pub one_fields : (xs ys : List SentKey) (bytes : List ℕ) (count : ℕ) → AreFields count bytes xs → AreFields count bytes ys → xs ≡ ys
@@ -178,7 +178,7 @@ one_fields [] (y ∷ ys) bytes count one other = (let a = one.number in let b = 
 one_fields (x ∷ xs) [] bytes count one other = (let a = one.number in let b = other.number in absurd (omega arith))
 one_fields (x ∷ xs) (y ∷ ys) bytes count one other =
     let begins = first_of_fields x xs bytes one.each one.spelled in
-    let later = behind_first x bytes (concat (map key_field xs)) (length xs) y ys begins (record {
+    let later = after_first x bytes (concat (map key_field xs)) (length xs) y ys begins (record {
       number = (let n = one.number in let m = other.number in omega arith);
       each = other.each;
       alike = other.alike;

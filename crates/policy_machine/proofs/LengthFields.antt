@@ -23,8 +23,8 @@ module _ (a b bytes x y : List ℕ) (one : BeginsWithField a bytes x) (other : B
   pub one_field : a ≡ b
   one_field = sym (take_at a x (length a) refl) ∙ ap (take (length a)) same_rest ∙ take_at b y (length a) (sym as_long)
 
-  pub rest_behind : x ≡ y
-  rest_behind = sym (drop_at a x (length a) refl) ∙ ap (drop (length a)) same_rest ∙ drop_at b y (length a) (sym as_long)
+  pub rest_after : x ≡ y
+  rest_after = sym (drop_at a x (length a) refl) ∙ ap (drop (length a)) same_rest ∙ drop_at b y (length a) (sym as_long)
 
 pub first_begins : (field : List ℕ) (fields : List (List ℕ)) (bytes : List ℕ) → AreLengthFields (field ∷ fields) bytes
     → BeginsWithField field bytes (flat_map with_length fields)
@@ -39,12 +39,12 @@ none_later field bytes rest count begins none [] number are = absurd (omega arit
 none_later field bytes rest count begins none (first ∷ fields) number are =
     none fields (omega arith) (record {
       short = All-tail IsShort first fields are.short;
-      spelled = rest_behind field first bytes rest _ begins (first_begins first fields bytes are);
+      spelled = rest_after field first bytes rest _ begins (first_begins first fields bytes are);
     })
 
-pub none_behind : (bytes : List ℕ) → (length bytes ≡ 0 → ⊥) → NoLengthFields 0 bytes
-none_behind bytes more [] number are = more (ap length are.spelled)
-none_behind bytes more (field ∷ fields) number are = absurd (omega arith)
+pub none_after : (bytes : List ℕ) → (length bytes ≡ 0 → ⊥) → NoLengthFields 0 bytes
+none_after bytes more [] number are = more (ap length are.spelled)
+none_after bytes more (field ∷ fields) number are = absurd (omega arith)
 
 pub more_fields : (field : List ℕ) (fields : List (List ℕ)) (bytes rest : List ℕ) → BeginsWithField field bytes rest → AreLengthFields fields rest
     → AreLengthFields (field ∷ fields) bytes
@@ -71,7 +71,7 @@ one_fields (x ∷ xs) (y ∷ ys) bytes number one other =
     let here = first_begins x xs bytes one in
     let there = first_begins y ys bytes other in
     let first = one_field x y bytes _ _ here there in
-    let rest = rest_behind x y bytes _ _ here there in
+    let rest = rest_after x y bytes _ _ here there in
     let behind = one_fields xs ys (flat_map with_length xs) (omega arith)
     (record { short = All-tail IsShort x xs one.short; spelled = refl })
     (record { short = All-tail IsShort y ys other.short; spelled = rest }) in

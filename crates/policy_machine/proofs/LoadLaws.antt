@@ -7,7 +7,7 @@ use Rattle.std.proofs.lemmas.Cmp.{nat_list_cmp_total, on_total}
 use Rattle.std.proofs.lemmas.List.Sorted.{IsPermutation-sym, IsPermutation-trans}
 use Rattle.card_types.proofs.AddedThing.{file_added_keeps}
 use Rattle.card_types.proofs.ChangeExists.{one_order}
-use Rattle.policy_machine.specs.Prelude.{Admitted, BringsBytes, Effect, EndsLoad, Fits, GoesOn, Holds, IsAnswered, IsFileAdded, IsFirst, IsLoadOn, IsOfCard, IsSound, IsWellLoad, JudgesAs, LoadEffect, LoadFails, LoadFile, LoadSession, LoadingFails, MayAddFile, ReceiptFails, Registry, Volatile, aid_order, block_of, delegated_management, file_of_load, load_rules, load_without_channel, loading, managing, pages_of, pages_used, unconfirmed, with_block, without_load}
+use Rattle.policy_machine.specs.Prelude.{Admitted, BringsBytes, Effect, EndsLoad, Fits, Holds, IsAnswered, IsFileAdded, IsFirst, IsLoadOn, IsOfCard, IsSound, IsWellLoad, JudgesAs, LoadEffect, LoadFails, LoadFile, LoadGoesOn, LoadSession, LoadingFails, MayAddFile, ReceiptFails, Registry, Volatile, aid_order, block_of, delegated_management, file_of_load, load_rules, load_without_channel, loading, managing, no_confirmation, pages_of, pages_used, with_block, without_load}
 use Rattle.card_types.specs.declared.limits.TheConstants.{FILE_LIMIT, LOAD_PAGES}
 use Rattle.policy_machine.specs.declared.delegation.RuleRC.TheVariants.{RC1}
 use Rattle.policy_machine.specs.declared.load.RuleLO.{RuleLO}
@@ -136,7 +136,7 @@ loading_keeps admitted done sound (takes, first) does = by does.taken
     well : IsWellLoad admitted.at.registry admitted.at.volatile does.load
     well = subst (λ (load : Option LoadSession). MatchOption load (Unit {0}) (IsWellLoad admitted.at.registry admitted.at.volatile)) does.on.0 sound.fits.load
 
-    by : GoesOn admitted (with_block does.load does.size does.bytes) done ⊎ EndsLoad admitted (with_block does.load does.size does.bytes) done → IsSound done.state
+    by : LoadGoesOn admitted (with_block does.load does.size does.bytes) done ⊎ EndsLoad admitted (with_block does.load does.size does.bytes) done → IsSound done.state
     by (inl goes) =
         sound_with admitted.at done.state sound goes.registry
         (fits_as refl (sym goes.volatile) (next_fits admitted does.load does.on does.size does.bytes does.brings passes well sound.fits))
@@ -145,12 +145,12 @@ loading_keeps admitted done sound (takes, first) does = by does.taken
         let changed = loaded_of_card admitted does.load does.on does.size does.bytes does.brings well of ends.last first ends.changed ends.added in
         let receipts : Holds admitted delegated_management → ReceiptFails admitted RC1 → ⊥ = (λ holds fails. passes LO8 (ends.last, holds, fails)) in
         let aids = does.load.aid ∷ does.load.domain ∷ [] in
-        let kept = answered_keeps (Holds admitted delegated_management) admitted aids ends.changed unconfirmed done sound.well receipts ends.answered changed in
+        let kept = answered_keeps (Holds admitted delegated_management) admitted aids ends.changed no_confirmation done sound.well receipts ends.answered changed in
         let left = without_load admitted.at.volatile admitted.channel in
         let none : left.load ≡ None = ended admitted.channel admitted.at.volatile.load does.load does.on.0 does.on.1 in
         let with_file = fits_as (sym ends.added.same) refl
         (files_fit admitted.at.registry ends.changed.files left none (without_load_fits admitted.at.registry admitted.at.volatile admitted.channel sound.fits)) in
-        let fits = answered_fits (Holds admitted delegated_management) admitted aids ends.changed unconfirmed done sound.well receipts ends.answered left with_file in
+        let fits = answered_fits (Holds admitted delegated_management) admitted aids ends.changed no_confirmation done sound.well receipts ends.answered left with_file in
         record { well = kept.well; ascending = kept.ascending; fits = fits_as refl (sym ends.volatile) fits })
 
 -- the files of a registry to which one is added
@@ -162,7 +162,7 @@ one_added file before a b one other =
     one.same ∙ ap (λ (fs : List LoadFile). record before { files = fs }) files ∙ sym other.same
 
 abbrev IsTaken : Admitted → LoadSession → Effect → Type 0
-IsTaken admitted load done = GoesOn admitted load done ⊎ EndsLoad admitted load done
+IsTaken admitted load done = LoadGoesOn admitted load done ⊎ EndsLoad admitted load done
 
 -- a block is taken in one way
 taken_once : (admitted : Admitted) (load : LoadSession) (a b : Effect) → a.status ≡ b.status → IsTaken admitted load a → IsTaken admitted load b → a ≡ b
@@ -173,8 +173,8 @@ taken_once admitted load a b status (inr one) (inl other) = absurd (omega (arith
 taken_once admitted load a b status (inr one) (inr other) =
     let aids = load.aid ∷ load.domain ∷ [] in
     let changed = one_added (file_of_load load) admitted.at.registry one.changed other.changed one.added other.added in
-    let answered = subst (λ (r : Registry). IsAnswered (Holds admitted delegated_management) admitted aids r unconfirmed a) changed one.answered in
-    let same = answered_once (Holds admitted delegated_management) admitted aids other.changed unconfirmed a b answered other.answered in
+    let answered = subst (λ (r : Registry). IsAnswered (Holds admitted delegated_management) admitted aids r no_confirmation a) changed one.answered in
+    let same = answered_once (Holds admitted delegated_management) admitted aids other.changed no_confirmation a b answered other.answered in
     effect_same a b (state_same a.state b.state same.0 (one.volatile ∙ sym other.volatile)) same.1 status
 
 -- it does one thing

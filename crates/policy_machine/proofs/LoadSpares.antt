@@ -4,7 +4,7 @@ use Rattle.std.specs.Prelude.{Contains}
 use Rattle.std.proofs.lemmas.List.Sorted.{Contains-permutation}
 use Rattle.card_types.proofs.Members.{contains_later}
 use Rattle.card_types.proofs.NamedThings.{new_or_old}
-use Rattle.policy_machine.specs.Prelude.{Admitted, Effect, EndsLoad, GoesOn, Holds, IsAtOrAbove, IsFileAdded, Key, LoadEffect, LoadFile, LoadingFails, Object, Registry, about_load, acting, changing, delegated_management, file_of_load, loading, unconfirmed, with_block}
+use Rattle.policy_machine.specs.Prelude.{Admitted, Effect, EndsLoad, Holds, IsAtOrAbove, IsFileAdded, Key, LoadEffect, LoadFile, LoadGoesOn, LoadingFails, Object, Registry, about_load, acting, changing, delegated_management, file_of_load, loading, no_confirmation, with_block}
 use Rattle.policy_machine.specs.declared.load.RuleLO.TheVariants.{LO7}
 use Rattle.policy_machine.proofs.AnsweredSpares.{answered_spares}
 use Rattle.policy_machine.proofs.LoadLaws.{no_rule}
@@ -47,11 +47,11 @@ load_sparing changes = record {
   where
     by : (admitted : Admitted) (done : Effect) (does : LoadEffect admitted done) {domain : List ℕ} → AreApart admitted domain
         → (LoadingFails admitted LO7 → ⊥)
-        → GoesOn admitted (with_block does.load does.size does.bytes) done ⊎ EndsLoad admitted (with_block does.load does.size does.bytes) done
+        → LoadGoesOn admitted (with_block does.load does.size does.bytes) done ⊎ EndsLoad admitted (with_block does.load does.size does.bytes) done
         → KeepsTree admitted done.state.registry domain
     by admitted done does {domain} apart passes (inl goes) = stays_sparing admitted done.state.registry goes.registry domain
     by admitted done does {domain} apart passes (inr ends) =
         (let next = with_block does.load does.size does.bytes in
         answered_spares admitted domain ends.changed
         (file_spared admitted domain apart (file_of_load next) ends.changed ends.added (λ away. passes (ends.last, (does.load, does.on, away))))
-        (about_load next) done (Holds admitted delegated_management) unconfirmed ends.answered)
+        (about_load next) done (Holds admitted delegated_management) no_confirmation ends.answered)

@@ -7,7 +7,7 @@ use Rattle.policy_machine.specs.Prelude.{Admitted, AskedFails, CommandAsks, IsFi
 use Rattle.policy_machine.specs.declared.management.RuleM.{RuleM}
 use Rattle.policy_machine.specs.declared.rule.Rule.{Rule}
 use Rattle.policy_machine.specs.declared.rule.Rule.TheVariants.{M, RC, TK}
-use Rattle.policy_machine.proofs.FirstJoined.{first_behind, first_within}
+use Rattle.policy_machine.proofs.FirstJoined.{first_after, first_within}
 use Rattle.policy_machine.proofs.FirstUnique.{none_fails}
 use Rattle.std.specs.Option.{option_map}
 
@@ -98,15 +98,15 @@ module _ (form : JudgedForm) (judgeable : IsJudgeable form) (admitted : Admitted
         → IsFirst Fails (map M form.first_rules ++ own_rules ++ form.delegation.rules) (Some (form.own.group rule))
     own_refuses rule first =
         first_within Fails form.delegation.rules (map M form.first_rules ++ own_rules) (form.own.group rule)
-        (first_behind Fails own_rules (map M form.first_rules) (Some (form.own.group rule)) (managed_none form.first_rules managed)
+        (first_after Fails own_rules (map M form.first_rules) (Some (form.own.group rule)) (managed_none form.first_rules managed)
         (own_first form.own.order (Some rule) first))
 
     -- where none of them fails, the rules on the approval decide
     pub approval_decides : (found : Option Rule) → OwnFirst form admitted asked None → IsFirst FailsHere form.delegation.rules found
         → IsFirst Fails (map M form.first_rules ++ own_rules ++ form.delegation.rules) found
     approval_decides found none first =
-        first_behind Fails form.delegation.rules (map M form.first_rules ++ own_rules) found
-        (first_behind Fails own_rules (map M form.first_rules) None (managed_none form.first_rules managed) (own_first form.own.order None none))
+        first_after Fails form.delegation.rules (map M form.first_rules ++ own_rules) found
+        (first_after Fails own_rules (map M form.first_rules) None (managed_none form.first_rules managed) (own_first form.own.order None none))
         (asked_first form.delegation.rules judgeable.approving found first)
 
   -- where no rule of the command fails, none of its own does for what is asked, and none on its approval

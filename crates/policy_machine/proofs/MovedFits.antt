@@ -7,7 +7,7 @@ use Rattle.std.proofs.lemmas.Bool.{cond_both}
 use Rattle.std.proofs.lemmas.List.{length-map}
 use Rattle.std.proofs.lemmas.List.Sums.{sum-map}
 use Rattle.card_types.proofs.MappedEntries.{find_mapped, names_mapped, some_keep}
-use Rattle.policy_machine.specs.Prelude.{Entry, Fits, LoadFile, Registry, Volatile, moved, pages_of, same_aid}
+use Rattle.policy_machine.specs.Prelude.{Entry, Fits, LoadFile, Registry, Volatile, pages_of, same_aid, with_thing_in_domain}
 use Rattle.policy_machine.proofs.ChangedFits.{mapped_fits}
 
 abbrev size : LoadFile → ℕ
@@ -30,7 +30,7 @@ module _ (registry : Registry) (aid domain : List ℕ) where
   same_sizes : sum_by size (map file_in registry.files) ≡ sum_by size registry.files
   same_sizes = sym (sum-map size (map file_in registry.files)) ∙ ap sum (names_mapped file_in size file_size registry.files) ∙ sum-map size registry.files
 
-  pub moved_fits : (volatile : Volatile) → Fits registry volatile → Fits (moved registry aid domain) volatile
+  pub moved_fits : (volatile : Volatile) → Fits registry volatile → Fits (with_thing_in_domain registry aid domain) volatile
   moved_fits volatile =
       mapped_fits registry _ (map file_in registry.files)
       (some_keep (λ other. same_aid other aid) (λ (entry : Entry). record entry { domain = domain }) (record { aid = λ _. refl; file = λ _. refl; privileges = λ _. refl })) volatile

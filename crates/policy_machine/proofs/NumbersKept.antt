@@ -5,12 +5,12 @@ use Rattle.std.specs.Prelude.{find, map}
 use Rattle.std.specs.Option.{option_map}
 use Rattle.card_types.proofs.MappedEntries.{find_mapped}
 use Rattle.card_types.proofs.NamedThings.{aid_cases, beside_found}
-use Rattle.policy_machine.specs.Prelude.{Entry, IsEntryAdded, IsFreeAid, IsOfCard, Registry, entry_named, number_of, same_aid, with_entries}
+use Rattle.policy_machine.specs.Prelude.{Entry, IsEntryAdded, IsFreeAid, IsOfCard, Registry, entry_named, last_receipt, same_aid, with_entries}
 use Rattle.policy_machine.proofs.Lawful.{some_same}
 
 -- who is named before and after has the same number
 abbrev pub KeepsNumbers : Registry → Registry → Type 0
-KeepsNumbers before after = (aid : List ℕ) (n n' : ℕ) → number_of before aid ≡ Some n → number_of after aid ≡ Some n' → n' ≡ n
+KeepsNumbers before after = (aid : List ℕ) (n n' : ℕ) → last_receipt before aid ≡ Some n → last_receipt after aid ≡ Some n' → n' ≡ n
 
 abbrev pub receipts_in : Option Entry → Option ℕ
 receipts_in o = option_map (λ (entry : Entry). entry.receipts) o

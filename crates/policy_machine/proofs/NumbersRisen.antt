@@ -1,6 +1,6 @@
 -- A receipt number rises by one with each command that its domain confirms, and with no other.
 use Rattle.std.proofs.Common.{◌≡◌, inl, inr, ℕ, ◌+◌, List, [], ◌∷◌, Some, ap, sym, subst, ◌∙◌}
-use Rattle.policy_machine.specs.Prelude.{Admitted, Command, CommandForm, Confirms, Effect, IsAccepted, IsReceiptedBy, IsReceipter, IsSound, Key, NumbersRise, NumbersRiseInRuns, OneOf, Outcome, Registry, RepliesReceipt, Reset, State, TakesCommand, acting, forms_of, number_of, powered_on, receipt, sent, unique_data}
+use Rattle.policy_machine.specs.Prelude.{Admitted, Command, CommandForm, Effect, IsAccepted, IsReceiptedBy, IsReceipter, IsSound, Key, NumbersRise, NumbersRiseInRuns, OneOf, Outcome, ReceiptNames, Registry, RepliesReceipt, Reset, State, TakesCommand, acting, forms_of, last_receipt, powered_on, receipt, reply_bytes, unique_data}
 use Rattle.policy_machine.specs.declared.rule.Rule.{Rule}
 use Rattle.policy_machine.proofs.AllForms.{all_forms}
 use Rattle.policy_machine.proofs.FormLaws.{FormLaws}
@@ -16,15 +16,15 @@ module _ (state : State) (bytes : List ℕ) (outcome : Outcome) (domain : List �
       × ((IsReceiptedBy state bytes outcome domain → ⊥) → after ≡ before)
 
   -- a refusal leaves the registry, and is not confirmed
-  refused_told : {rule : Rule} → outcome.rule ≡ Some rule → outcome.state.registry ≡ state.registry → number_of state.registry domain ≡ Some before
-      → number_of outcome.state.registry domain ≡ Some after → Told
+  refused_told : {rule : Rule} → outcome.rule ≡ Some rule → outcome.state.registry ≡ state.registry → last_receipt state.registry domain ≡ Some before
+      → last_receipt outcome.state.registry domain ≡ Some after → Told
   refused_told refused same was is = (
     λ receipted. (let clash = sym receipted.accepted ∙ refused in cc),
-    λ none. some_same after before (sym is ∙ ap (λ (r : Registry). number_of r domain) same ∙ was),
+    λ none. some_same after before (sym is ∙ ap (λ (r : Registry). last_receipt r domain) same ∙ was),
   )
 
-  module _ (sound : IsSound state) (accepts : IsAccepted state bytes outcome) (was : number_of state.registry domain ≡ Some before)
-      (is : number_of outcome.state.registry domain ≡ Some after) where
+  module _ (sound : IsSound state) (accepts : IsAccepted state bytes outcome) (was : last_receipt state.registry domain ≡ Some before)
+      (is : last_receipt outcome.state.registry domain ≡ Some after) where
     abbrev admitted : Admitted
     admitted = accepts.admitted
 
@@ -34,11 +34,11 @@ module _ (state : State) (bytes : List ℕ) (outcome : Outcome) (domain : List �
     at : admitted.at.registry ≡ state.registry
     at = ap (λ (a : Admitted). a.at.registry) accepts.admits.1.2.3
 
-    was_at : number_of admitted.at.registry domain ≡ Some before
-    was_at = subst (λ (r : Registry). number_of r domain ≡ Some before) (sym at) was
+    was_at : last_receipt admitted.at.registry domain ≡ Some before
+    was_at = subst (λ (r : Registry). last_receipt r domain ≡ Some before) (sym at) was
 
-    is_done : number_of done.state.registry domain ≡ Some after
-    is_done = subst (λ (o : Outcome). number_of o.state.registry domain ≡ Some after) accepts.outcome_is is
+    is_done : last_receipt done.state.registry domain ≡ Some after
+    is_done = subst (λ (o : Outcome). last_receipt o.state.registry domain ≡ Some after) accepts.outcome_is is
 
     ready : IsReady admitted
     ready = admitted_is_ready state bytes admitted sound accepts.admits
@@ -54,7 +54,7 @@ module _ (state : State) (bytes : List ℕ) (outcome : Outcome) (domain : List �
     ConfirmsSome form = (aids : List (List ℕ)) × TakesToConfirm aids form
 
     -- the domain confirms it
-    module _ (aids : List (List ℕ)) (confirms : Confirms admitted aids) (key : Key) (receipter : IsReceipter admitted.at.registry (acting admitted) domain key) where
+    module _ (aids : List (List ℕ)) (confirms : ReceiptNames admitted aids) (key : Key) (receipter : IsReceipter admitted.at.registry (acting admitted) domain key) where
       pub record IsConfirmedSo : Type 0 where
         pub rises : after ≡ before + 1
         pub body : done.body ≡ receipt key.bytes after (unique_data admitted.at.registry) aids
@@ -71,7 +71,7 @@ module _ (state : State) (bytes : List ℕ) (outcome : Outcome) (domain : List �
           (join_forms admitted (TakesToConfirm aids) (Accepts admitted done) (λ form one. one.0) (λ form other. other.0.0) confirms accepting)
 
     -- the domain does not confirm it
-    unconfirmed_same : ((aids : List (List ℕ)) (key : Key) → Confirms admitted aids → IsReceipter admitted.at.registry (acting admitted) domain key → ⊥) → after ≡ before
+    unconfirmed_same : ((aids : List (List ℕ)) (key : Key) → ReceiptNames admitted aids → IsReceipter admitted.at.registry (acting admitted) domain key → ⊥) → after ≡ before
     unconfirmed_same none =
         pick_form FormLaws (Accepts admitted done) ConfirmsSome (after ≡ before) (forms_of admitted.command.ins)
         (λ form laws both there. (laws.rising.rises admitted done ready both.0 both.1.1 domain before after was_at is_done).same (λ aids key so receipter.
@@ -86,7 +86,7 @@ module _ (state : State) (bytes : List ℕ) (outcome : Outcome) (domain : List �
     told_accepted : Told
     told_accepted = (told, λ none. unconfirmed_same (λ aids key so receipter. none (receipted aids key so receipter)))
       where
-        receipted : (aids : List (List ℕ)) (key : Key) → Confirms admitted aids → IsReceipter admitted.at.registry (acting admitted) domain key
+        receipted : (aids : List (List ℕ)) (key : Key) → ReceiptNames admitted aids → IsReceipter admitted.at.registry (acting admitted) domain key
             → IsReceiptedBy state bytes outcome domain
         receipted aids key so receipter = record {
           accepted = ap (λ (o : Outcome). o.rule) accepts.outcome_is;
@@ -101,12 +101,12 @@ module _ (state : State) (bytes : List ℕ) (outcome : Outcome) (domain : List �
         told : (is : IsReceiptedBy state bytes outcome domain) → (after ≡ before + 1) × RepliesReceipt is after
         told is =
             (let same = admits_one state bytes is.admitted admitted is.admits accepts.admits in
-            let so = confirmed_so is.aids (subst (λ (a : Admitted). Confirms a is.aids) same is.confirms) is.key
+            let so = confirmed_so is.aids (subst (λ (a : Admitted). ReceiptNames a is.aids) same is.confirms) is.key
             (subst (λ (r : Registry). IsReceipter r (acting admitted) domain is.key) (sym at)
             (subst (λ (a : Admitted). IsReceipter state.registry (acting a) domain is.key) same is.receipter)) in
             let reply = ap (λ (o : Outcome). o.reply) accepts.outcome_is in
             let body = so.body ∙ ap (λ (r : Registry). receipt is.key.bytes after (unique_data r) is.aids) at in
-            (so.rises, reply ∙ (λ i. sent ((sym same i).session) (body i) (so.status i))))
+            (so.rises, reply ∙ (λ i. reply_bytes ((sym same i).session) (body i) (so.status i))))
 
 pub numbers_rise : NumbersRise
 numbers_rise state bytes outcome sound (inl rejected) domain before after was is =

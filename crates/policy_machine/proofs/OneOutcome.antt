@@ -2,7 +2,7 @@
 use Rattle.std.proofs.Common.{◌≡◌, ◌⊎◌, ℕ, List, [], ◌∷◌, false, Option, None, Some, refl, sym, ap, subst, ◌∙◌, inl, inr}
 use Rattle.std.specs.Prelude.{MatchOption}
 use Rattle.apdu_core.proofs.OneSpelling.{one_command}
-use Rattle.policy_machine.specs.Prelude.{Admits, Admitted, Apdu, DoesAs, Effect, FormFails, GeneralFails, GeneralRefusalLeaves, HasEffect, IsAccepted, IsPlainManagement, IsRefused, IsRejected, IsTaken, Judges, JudgesAs, Of, OneOf, OneOutcome, OneRun, Opens, Outcome, Run, Session, SessionEnds, Short, State, Volatile, accepted, accepting, admitted_as, channel_of, class_passed, form_rules, forms_of, general_rules, powered_on, refusal_leaves, refused, session_for, without_place, without_session}
+use Rattle.policy_machine.specs.Prelude.{Admits, Admitted, Apdu, DoesAs, Effect, FormFails, GeneralFails, GeneralRefusalLeaves, HasEffect, IsAccepted, IsPlainManagement, IsRefused, IsRejected, IsTakenAs, Judges, JudgesAs, Of, OneOf, OneOutcome, OneRun, Opens, Outcome, Run, Session, SessionEnds, Short, State, Volatile, accepting, admitted_as, channel_of, class_passed, form_rules, forms_of, general_rules, outcome_of_effect, outcome_of_refusal, powered_on, refusal_leaves, session_for, without_place, without_session}
 use Rattle.policy_machine.specs.declared.rule.Rule.{Rule}
 use Rattle.policy_machine.specs.declared.rule.Rule.TheVariants.{G}
 use Rattle.policy_machine.specs.declared.rule.RuleG.{RuleG}
@@ -53,7 +53,7 @@ opened_one command None a b p q one other = absurd one
 opened_one command (Some session) a b p q one other = (one.1 ∙ sym other.1, opens_one session command p q one.0 other.0)
 
 -- a command is taken in one way
-taken_one : (state : State) (command : Apdu) (a b : Option Session) (p q : List ℕ) → IsTaken state command a p → IsTaken state command b q → (a ≡ b) × (p ≡ q)
+taken_one : (state : State) (command : Apdu) (a b : Option Session) (p q : List ℕ) → IsTakenAs state command a p → IsTakenAs state command b q → (a ≡ b) × (p ≡ q)
 taken_one state command None None p q one other = (refl, one.1 ∙ sym other.1)
 taken_one state command None (Some b) p q one other = absurd (true≢false (sym other.0 ∙ one.0))
 taken_one state command (Some a) None p q one other = absurd (true≢false (sym one.0 ∙ other.0))
@@ -65,7 +65,7 @@ admits_one state bytes a b one other =
     let command = one.1.0 in
     let first = one.1.2 in
     let second = of_one bytes
-    (λ command. (session : Option Session) × (plain : List ℕ) × IsTaken state command session plain × (b ≡ admitted_as state command session plain))
+    (λ command. (session : Option Session) × (plain : List ℕ) × IsTakenAs state command session plain × (b ≡ admitted_as state command session plain))
     command one.1.1 other.1 in
     let same = taken_one state command first.0 second.0 first.1 second.1 first.2 second.2 in
     first.3 ∙ (λ i. admitted_as state command (same.0 i) (same.1 i)) ∙ sym second.3
@@ -99,14 +99,14 @@ rejected_one : (state : State) (bytes : List ℕ) (a b : Outcome) → IsRejected
 rejected_one state bytes a b one other =
     let rules = some_same one.rule other.rule (one_first (GeneralFails state bytes) general_rules (Some one.rule) (Some other.rule) one.first other.first) in
     let left = leaves_one state bytes other.rule one.left other.left (subst (λ (r : RuleG). GeneralRefusalLeaves state bytes r one.left) rules one.leaves) other.leaves in
-    one.outcome_is ∙ (λ i. refused state (left i) None (G (rules i))) ∙ sym other.outcome_is
+    one.outcome_is ∙ (λ i. outcome_of_refusal state (left i) None (G (rules i))) ∙ sym other.outcome_is
 
 refused_one : (state : State) (bytes : List ℕ) (a b : Outcome) → IsRefused state bytes a → IsRefused state bytes b → a ≡ b
 refused_one state bytes a b one other =
     let same = admits_one state bytes one.admitted other.admitted one.admits other.admits in
     let judged = subst (λ (x : Admitted). Judges x (Some one.rule)) same one.judges in
     let rules = some_same one.rule other.rule (judges_one other.admitted (Some one.rule) (Some other.rule) judged other.judges) in
-    one.outcome_is ∙ (λ i. (let x : Admitted = same i in refused state (refusal_leaves x (rules i)) x.session (rules i))) ∙ sym other.outcome_is
+    one.outcome_is ∙ (λ i. (let x : Admitted = same i in outcome_of_refusal state (refusal_leaves x (rules i)) x.session (rules i))) ∙ sym other.outcome_is
 
 refused_or_accepted : {P : Type 0} (state : State) (bytes : List ℕ) (a b : Outcome) → IsRefused state bytes a → IsAccepted state bytes b → P
 refused_or_accepted state bytes a b one other =
@@ -118,7 +118,7 @@ accepted_one : (state : State) (bytes : List ℕ) (a b : Outcome) → IsAccepted
 accepted_one state bytes a b one other =
     let same = admits_one state bytes one.admitted other.admitted one.admits other.admits in
     let done = does_one other.admitted one.done other.done (subst (λ (x : Admitted). HasEffect x one.done) same one.does) other.does in
-    one.outcome_is ∙ (λ i. accepted (same i) (done i)) ∙ sym other.outcome_is
+    one.outcome_is ∙ (λ i. outcome_of_effect (same i) (done i)) ∙ sym other.outcome_is
 
 pub one_outcome : OneOutcome
 one_outcome state bytes a b (inl one) (inl other) = rejected_one state bytes a b one other

@@ -1,7 +1,7 @@
 -- What changes more than a sequence counter opens in a session.
 use Rattle.std.proofs.Common.{◌≡◌, ℕ, List, true, false, Option, None, Some, refl, sym, ap, subst, ◌∙◌, inl, inr, arith}
 use Rattle.std.specs.Prelude.{not, ◌==◌, Contains, MatchOption}
-use Rattle.policy_machine.specs.Prelude.{Admits, Admitted, Apdu, Changes, ChangesAreOpened, Effect, GeneralFails, HasEffect, IsFirst, IsSameButCounters, IsTaken, Opens, OpensInSession, Outcome, Registry, Session, Short, State, accepting, class_of, general_rules, instructions_of, is_protected, managing, protects, session_for}
+use Rattle.policy_machine.specs.Prelude.{Admits, Admitted, Apdu, Changes, ChangesAreOpened, Effect, GeneralFails, HasEffect, IsFirst, IsSameButCounters, IsTakenAs, Opens, OpensInSession, Outcome, Registry, Session, Short, State, accepting, class_of, general_rules, instructions_of, is_protected, managing, protects, session_for}
 use Rattle.policy_machine.specs.declared.class.Class.{Class}
 use Rattle.policy_machine.specs.declared.class.Class.TheVariants.{Interindustry, Plain, Secure}
 use Rattle.policy_machine.specs.declared.rule.RuleG.TheVariants.{G4, G6}
@@ -70,7 +70,7 @@ module _ (state : State) (bytes : List ℕ) (admitted : Admitted) (done : Effect
       some plain accepted None opens = absurd opens
       some plain accepted (Some session) opens = (plain, opens.0)
 
-      by : (session : Option Session) (plain : List ℕ) → IsTaken state command session plain → OpensInSession state bytes
+      by : (session : Option Session) (plain : List ℕ) → IsTakenAs state command session plain → OpensInSession state bytes
       by None plain taken = absurd (unprotected taken.0)
       by (Some accepted) plain taken = (command, admits.1.1, (taken.0, some plain accepted (session_for state command) taken.1))
 

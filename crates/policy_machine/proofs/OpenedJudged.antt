@@ -2,7 +2,7 @@
 use Rattle.std.proofs.Common.{◌≡◌, ◌≢◌, ℕ, List, true, false, Option, None, Some, refl, sym, ap, subst, ◌∙◌, inl, inr}
 use Rattle.std.specs.Prelude.{MatchOption}
 use Rattle.std.proofs.lemmas.Bool.{false≢true, true≢false}
-use Rattle.policy_machine.specs.Prelude.{Admits, Admitted, Apdu, Channel, Entry, GeneralFails, Gives, InSession, IsAuthentic, IsFirst, IsKnown, IsPlainManagement, IsSound, IsTaken, IsToApplication, Judges, Of, OpenedAreJudged, Opens, Outcome, Session, Short, State, Step, accepting, admitted_as, channel_at, channel_of, class_of, entry_named, field_of, general_rules, is_domain, is_protected, protects, secure_channel_of, selected_on, session_for, session_in}
+use Rattle.policy_machine.specs.Prelude.{Admits, Admitted, Apdu, Channel, Entry, GeneralFails, Gives, InSession, IsAuthentic, IsFirst, IsKnown, IsPlainManagement, IsSound, IsTakenAs, IsToApplication, Judges, Of, OpenedAreJudged, Opens, Outcome, Session, Short, State, Step, accepting, admitted_as, channel_at, channel_of, class_of, entry_named, field_of, general_rules, is_domain, is_protected, protects, secure_channel_of, selected_on, session_for, session_in}
 use Rattle.card_types.specs.declared.card_life.CardLife.TheVariants.{Terminated}
 use Rattle.policy_machine.specs.declared.class.Class.{Class}
 use Rattle.policy_machine.specs.declared.class.Class.TheVariants.{Plain}
@@ -77,7 +77,7 @@ module _ (state : State) (sound : IsSound state) (alive : state.registry.life �
   abbrev opened : Admitted
   opened = admitted_as state sent (Some (accepting session sent)) field
 
-  taken : IsTaken state sent (Some (accepting session sent)) field
+  taken : IsTakenAs state sent (Some (accepting session sent)) field
   taken = (
     protected,
     subst (λ (found : Option Session). MatchOption found ⊥ (λ one. Opens one sent field × (accepting session sent ≡ accepting one sent))) (sym on) (opens, refl),

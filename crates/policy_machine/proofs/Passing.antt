@@ -2,7 +2,7 @@
 use Rattle.std.proofs.Common.{◌≡◌, ◌≢◌, ℕ, ◌<◌, List, Bool, true, false, Option, None, Some, refl, sym, ap, subst, ◌∙◌, inl, inr, length, arith}
 use Rattle.std.specs.Prelude.{IsSome, MatchOption, if◌then◌else◌, ◌==◌}
 use Rattle.std.proofs.lemmas.Bool.{cases_Bool, true≢false}
-use Rattle.policy_machine.specs.Prelude.{Apdu, Channel, Entry, Fits, FitsSecureChannel, GeneralFails, IsDomainNamed, IsFirst, IsSecured, IsTaken, IsWellChannel, LoadSession, Nothing, Opens, Registry, SecureChannel, Secured, Session, Short, State, Volatile, accepting, admitted_as, channel_at, channel_of, channel_passed, channel_with, class_passed, entry_named, general_rules, is_domain, is_protected, load_without_channel, message_joined, offer_passed, secure_channel_of, selected_of, selected_on, session_for, session_in, session_on, with_channel, without_load, without_place}
+use Rattle.policy_machine.specs.Prelude.{Apdu, Channel, Entry, Fits, FitsSecureChannel, GeneralFails, IsDomainNamed, IsFirst, IsSecured, IsTakenAs, IsWellChannel, LoadSession, Nothing, Opens, Registry, SecureChannel, Secured, Session, Short, State, Volatile, accepting, admitted_as, channel_at, channel_of, channel_passed, channel_with, class_passed, entry_named, general_rules, is_domain, is_protected, load_without_channel, message_joined, offer_passed, secure_channel_of, selected_of, selected_on, session_for, session_in, session_on, with_channel, without_load, without_place}
 use Rattle.policy_machine.specs.State.{Offered}
 use Rattle.policy_machine.specs.declared.instruction.TheConstants.{SELECT, MANAGE_CHANNEL, EXTERNAL_AUTHENTICATE, LOAD}
 use Rattle.policy_machine.specs.declared.rule.RuleG.TheVariants.{G3, G4}
@@ -123,7 +123,7 @@ module _ (state : State) (command : Apdu) (fits : Fits state.registry state.vola
       stays (λ c. session_in (secure_channel_of c)) state.volatile number after low (same_session (command.ins == EXTERNAL_AUTHENTICATE) (channel_at state.volatile number))
 
   -- the session of a protected command has its message
-  joined_fits : (session : Option Session) (plain : List ℕ) → IsTaken state command session plain → Fits state.registry (message_joined passed number session)
+  joined_fits : (session : Option Session) (plain : List ℕ) → IsTakenAs state command session plain → Fits state.registry (message_joined passed number session)
   joined_fits None plain taken = passed_fits
   joined_fits (Some accepted) plain taken = by (session_for state command) refl taken.1
     where
@@ -142,7 +142,7 @@ module _ (state : State) (command : Apdu) (fits : Fits state.registry state.vola
   joined_selected (Some session) =
       stays selected_of passed number (channel_with (Secured session) (channel_at passed number)) low_after (so_selected (Secured session) (channel_at passed number))
 
-  joined_session : (session : Option Session) (plain : List ℕ) → IsTaken state command session plain → is_protected command ≡ true
+  joined_session : (session : Option Session) (plain : List ℕ) → IsTakenAs state command session plain → is_protected command ≡ true
       → HasSession (message_joined passed number session) number
   joined_session None plain taken protected = (let clash = sym protected ∙ taken.0 in cc)
   joined_session (Some accepted) plain taken protected =
@@ -165,7 +165,7 @@ module _ (state : State) (command : Apdu) (fits : Fits state.registry state.vola
     abbrev joined : Volatile
     joined = message_joined passed number session
 
-    pub admitted_fits : IsTaken state command session plain → Fits state.registry (admitted_as state command session plain).at.volatile
+    pub admitted_fits : IsTakenAs state command session plain → Fits state.registry (admitted_as state command session plain).at.volatile
     admitted_fits taken =
         let fit = joined_fits session plain taken in
         either (Fits state.registry) (command.ins == LOAD) joined (without_load joined number) fit (without_load_fits state.registry joined number fit)
@@ -188,5 +188,5 @@ module _ (state : State) (command : Apdu) (fits : Fits state.registry state.vola
         by false is = others_left number joined.load
 
     -- the session that protects the command is the channel's still
-    pub admitted_session : IsTaken state command session plain → is_protected command ≡ true → HasSession (admitted_as state command session plain).at.volatile number
+    pub admitted_session : IsTakenAs state command session plain → is_protected command ≡ true → HasSession (admitted_as state command session plain).at.volatile number
     admitted_session taken protected = (let has = joined_session session plain taken protected in either (λ (v : Volatile). HasSession v number) (command.ins == LOAD) joined (without_load joined number) has has)

@@ -20,11 +20,11 @@ rest_shorter tag value rest bytes (front, spelled, is) =
     omega (arith, some_spelling tag value front spelled, ap length is, length-append front rest)
 
 -- what follows an element that bytes of several begin with is the others
-pub elements_behind : (elements : List Element) (tag : ℕ) (value rest bytes : List ℕ) → AreElements elements bytes → BeginsWith tag value rest bytes
+pub elements_after : (elements : List Element) (tag : ℕ) (value rest bytes : List ℕ) → AreElements elements bytes → BeginsWith tag value rest bytes
     → (others : List Element) × (elements ≡ record { tag = tag; value = value } ∷ others) × AreElements others rest
-elements_behind [] tag value rest bytes none begins =
+elements_after [] tag value rest bytes none begins =
     (let fewer = rest_shorter tag value rest bytes begins in absurd (omega (arith, fewer, ap length none)))
-elements_behind (element ∷ others) tag value rest bytes (first, more, spelled, are, joined) (front, is, split) =
+elements_after (element ∷ others) tag value rest bytes (first, more, spelled, are, joined) (front, is, split) =
     let same = spelling_front element.tag tag element.value value first front more rest spelled is (sym joined ∙ split) in
     let tags = same.0 in
     let values = same.1 in
@@ -41,7 +41,7 @@ one_list [] [] bytes one other = refl
 one_list [] (element ∷ others) bytes one (first, rest, spelled, are, joined) =
     (let some = rest_shorter element.tag element.value rest bytes (first, spelled, joined) in absurd (omega (arith, some, ap length one)))
 one_list (element ∷ more) b bytes (first, rest, spelled, are, joined) other =
-    let behind = elements_behind b element.tag element.value rest bytes other (first, spelled, joined) in
+    let behind = elements_after b element.tag element.value rest bytes other (first, spelled, joined) in
     ap (λ (others : List Element). element ∷ others) (one_list more behind.0 rest are behind.2) ∙ sym behind.1
 
 -- where no element can be read there is none
@@ -58,9 +58,9 @@ objects_with tag value rest bytes begins is (others, are, each) = (
   All-cons (λ (e : Element). IsObject e.tag (length e.value)) (record { tag = tag; value = value }) others is each,
 )
 
-pub objects_behind : (tag : ℕ) (value rest bytes : List ℕ) → BeginsWith tag value rest bytes → AreObjects bytes → IsObject tag (length value) × AreObjects rest
-objects_behind tag value rest bytes begins (elements, are, each) =
-    let behind = elements_behind elements tag value rest bytes are begins in
+pub objects_after : (tag : ℕ) (value rest bytes : List ℕ) → BeginsWith tag value rest bytes → AreObjects bytes → IsObject tag (length value) × AreObjects rest
+objects_after tag value rest bytes begins (elements, are, each) =
+    let behind = elements_after elements tag value rest bytes are begins in
     let P = λ (e : Element). IsObject e.tag (length e.value) in
     let all : All P (record { tag = tag; value = value } ∷ behind.0) = subst (All P) behind.1 each in
     (All-head P (record { tag = tag; value = value }) behind.0 all, (behind.0, behind.2, All-tail P (record { tag = tag; value = value }) behind.0 all))

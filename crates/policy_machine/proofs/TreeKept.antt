@@ -1,6 +1,6 @@
 -- The tree of a domain, where the command of another domain changes what is below that domain alone.
 use Rattle.std.proofs.Common.{◌≡◌, ◌≢◌, ◌⊎◌, inl, inr, ℕ, List, None, refl, sym, subst}
-use Rattle.policy_machine.specs.Prelude.{Admitted, HasPowerOver, InTreeOf, IsAboveIn, IsAtOrAbove, IsDomainNamed, IsEntrusted, IsMember, IsOfCard, Member, Registry, StepsStay, TreeStays, acting, domain_of, place_of}
+use Rattle.policy_machine.specs.Prelude.{Admitted, HasPowerOver, InTreeOf, IsAboveIn, IsAtOrAbove, IsDomainNamed, IsEntrusted, IsMember, IsOfCard, Member, Registry, StepsStay, TreeStays, acting, domain_of, member_place}
 use Rattle.domain_tree.proofs.Compared.{above_compared, above_further, not_above_each_other}
 use Rattle.domain_tree.proofs.LinesStay.{above_stays, line_stays}
 use Rattle.policy_machine.proofs.TreesAlike.{LeavesTree, places_alike}
@@ -82,12 +82,12 @@ module _ (admitted : Admitted) (domain : List ℕ) (apart : AreApart admitted do
         above_out before apart.of self domain apart.powerless x higher (inr ((above_stays before after x (self_steps x higher) domain).0 above))
 
     -- with the members that are there still, and those that are new
-    pub spares_tree : ((member : Member) → IsMember before member → IsAtOrAbove before domain (place_of member) → IsMember after member)
+    pub spares_tree : ((member : Member) → IsMember before member → IsAtOrAbove before domain (member_place member) → IsMember after member)
         → ((member : Member) → InTreeOf after domain member → InTreeOf before domain member ⊎ IsEntrusted admitted domain member) → SparesTree admitted after domain
     spares_tree there new = record {
       keeps = record {
         stays = record {
-          members = λ member in_it. (there member in_it.0 in_it.1, still_in_tree (place_of member) in_it.1);
+          members = λ member in_it. (there member in_it.0 in_it.1, still_in_tree (member_place member) in_it.1);
           line = line_stays before after domain (tree_steps domain (inl refl));
         };
         new = new;

@@ -8,7 +8,7 @@ use Rattle.card_types.proofs.LeastOfList.{none_fits}
 use Rattle.card_types.proofs.Members.{contains_later}
 use Rattle.card_types.proofs.NamedThings.{new_or_old}
 use Rattle.card_types.proofs.SameAid.{same_aid_decides}
-use Rattle.policy_machine.specs.Prelude.{AFile, AKey, Admitted, AnEntry, AnObject, Entry, InTreeOf, IsAboveIn, IsAtOrAbove, IsDomainNamed, IsEntrusted, IsEntryAdded, IsMember, IsWellFile, IsWellKey, IsWellObject, MayAddEntry, Member, Registry, acting, domain_of, place_of, same_aid}
+use Rattle.policy_machine.specs.Prelude.{AFile, AKey, Admitted, AnEntry, AnObject, Entry, InTreeOf, IsAboveIn, IsAtOrAbove, IsDomainNamed, IsEntrusted, IsEntryAdded, IsMember, IsWellFile, IsWellKey, IsWellObject, MayAddEntry, Member, Registry, acting, domain_of, member_place, same_aid}
 use Rattle.domain_tree.proofs.AboveChanges.{above_added, above_others_of_added}
 use Rattle.domain_tree.proofs.DomainsStay.{domains_after_entry_added}
 use Rattle.policy_machine.proofs.Strangers.{named_has_domain, not_below}
@@ -30,7 +30,7 @@ module _ (admitted : Admitted) (domain : List ℕ) (apart : AreApart admitted do
   was_there : (x : List ℕ) → IsDomainNamed before x → x ≢ entry.aid
   was_there x named same = named_has_domain before x named (subst (λ (a : List ℕ). domain_of before a ≡ None) (sym same) had_none)
 
-  there : (member : Member) → IsMember before member → IsAtOrAbove before domain (place_of member) → IsMember after member
+  there : (member : Member) → IsMember before member → IsAtOrAbove before domain (member_place member) → IsMember after member
   there (AnEntry e) is at = Contains-permutation (entry ∷ before.entries) after.entries e added.entries.same (contains_later entry before.entries e is)
   there (AFile file) is at = subst (λ (r : Registry). Contains r.files file) (sym added.same) is
   there (AKey key) is at = subst (λ (r : Registry). Contains r.keys key) (sym added.same) is

@@ -4,7 +4,7 @@ use Rattle.std.specs.Prelude.{◌↔◌, Contains, find, map}
 use Rattle.std.specs.Option.{option_map}
 use Rattle.std.proofs.lemmas.Bool.{cond_both}
 use Rattle.card_types.proofs.Members.{contains_map, mapped}
-use Rattle.policy_machine.specs.Prelude.{AFile, AKey, AnEntry, AnObject, Entry, InTreeOf, IsAtOrAbove, IsMember, Key, LoadFile, Member, Object, Registry, StepsStay, TreeStays, domain_of, place_of, same_aid, with_entries}
+use Rattle.policy_machine.specs.Prelude.{AFile, AKey, AnEntry, AnObject, Entry, InTreeOf, IsAtOrAbove, IsMember, Key, LoadFile, Member, Object, Registry, StepsStay, TreeStays, domain_of, member_place, same_aid, with_entries}
 use Rattle.domain_tree.proofs.DomainsStay.{domains_after_change}
 use Rattle.domain_tree.proofs.LinesStay.{above_stays, line_stays}
 
@@ -34,14 +34,14 @@ module _ (before after : Registry) (same : (x : List ℕ) → domain_of after x 
       from (inr above) = inr ((above_stays before after x (steps x) domain).1 above)
 
   -- what is in the tree is as before
-  pub leaves_tree : ((member : Member) → IsMember before member → IsAtOrAbove before domain (place_of member) → IsMember after member)
-      → ((member : Member) → IsMember after member → IsAtOrAbove before domain (place_of member) → IsMember before member) → LeavesTree before after domain
+  pub leaves_tree : ((member : Member) → IsMember before member → IsAtOrAbove before domain (member_place member) → IsMember after member)
+      → ((member : Member) → IsMember after member → IsAtOrAbove before domain (member_place member) → IsMember before member) → LeavesTree before after domain
   leaves_tree there back = record {
     stays = record {
-      members = λ member in_it. (there member in_it.0 in_it.1, (places_alike (place_of member)).1 in_it.1);
+      members = λ member in_it. (there member in_it.0 in_it.1, (places_alike (member_place member)).1 in_it.1);
       line = line_stays before after domain (steps domain);
     };
-    back = λ member in_it. (let at = (places_alike (place_of member)).0 in_it.1 in (back member in_it.0 at, at));
+    back = λ member in_it. (let at = (places_alike (member_place member)).0 in_it.1 in (back member in_it.0 at, at));
   }
 
 -- the registry has the same entries, Executable Load Files, keys and data objects
@@ -50,13 +50,13 @@ pub same_lists_leave : (before after : Registry) → after.entries ≡ before.en
 same_lists_leave before after entries files keys objects domain =
     leaves_tree before after (same_entries before after entries) domain there back
   where
-    there : (member : Member) → IsMember before member → IsAtOrAbove before domain (place_of member) → IsMember after member
+    there : (member : Member) → IsMember before member → IsAtOrAbove before domain (member_place member) → IsMember after member
     there (AnEntry entry) is at = subst (λ (xs : List Entry). Contains xs entry) (sym entries) is
     there (AFile file) is at = subst (λ (xs : List LoadFile). Contains xs file) (sym files) is
     there (AKey key) is at = subst (λ (xs : List Key). Contains xs key) (sym keys) is
     there (AnObject object) is at = subst (λ (xs : List Object). Contains xs object) (sym objects) is
 
-    back : (member : Member) → IsMember after member → IsAtOrAbove before domain (place_of member) → IsMember before member
+    back : (member : Member) → IsMember after member → IsAtOrAbove before domain (member_place member) → IsMember before member
     back (AnEntry entry) is at = subst (λ (xs : List Entry). Contains xs entry) entries is
     back (AFile file) is at = subst (λ (xs : List LoadFile). Contains xs file) files is
     back (AKey key) is at = subst (λ (xs : List Key). Contains xs key) keys is
@@ -75,11 +75,11 @@ module _ (registry : Registry) (these : List ℕ → Bool) (change : Entry → E
   unchanged : (entry : Entry) → IsAtOrAbove registry domain entry.aid → some entry ≡ entry
   unchanged entry at = ap (λ b. cond b (change entry) entry) (outside entry.aid at)
 
-  there : (member : Member) → IsMember registry member → IsAtOrAbove registry domain (place_of member) → IsMember (with_entries registry these change) member
+  there : (member : Member) → IsMember registry member → IsAtOrAbove registry domain (member_place member) → IsMember (with_entries registry these change) member
   there (AnEntry entry) is at = subst (Contains (map some registry.entries)) (unchanged entry at) (contains_map some registry.entries entry is)
   there _ is at = is
 
-  back : (member : Member) → IsMember (with_entries registry these change) member → IsAtOrAbove registry domain (place_of member) → IsMember registry member
+  back : (member : Member) → IsMember (with_entries registry these change) member → IsAtOrAbove registry domain (member_place member) → IsMember registry member
   back (AnEntry entry) is at =
       let from = mapped some registry.entries entry is in
       let aid : from.0.aid ≡ entry.aid = sym (some_aid from.0) ∙ ap (λ (e : Entry). e.aid) from.2 in

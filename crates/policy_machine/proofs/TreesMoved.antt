@@ -6,7 +6,7 @@ use Rattle.std.proofs.lemmas.List.Elements.{All-contains}
 use Rattle.card_types.proofs.Members.{contains_map, mapped}
 use Rattle.card_types.proofs.NamedThings.{aid_cases, aid_differs}
 use Rattle.card_types.proofs.SameAid.{same_aid_decides}
-use Rattle.policy_machine.specs.Prelude.{AFile, AKey, Admitted, AnEntry, AnObject, Entry, InTreeOf, IsAboveIn, IsAtOrAbove, IsDomainNamed, IsEntrusted, IsInCharge, IsMember, IsWellFile, IsWellKey, IsWellObject, LoadFile, MayMove, Member, MovesWith, Registry, acting, domain_of, entry_named, moved, place_of, same_aid}
+use Rattle.policy_machine.specs.Prelude.{AFile, AKey, Admitted, AnEntry, AnObject, Entry, InTreeOf, IsAboveIn, IsAtOrAbove, IsDomainNamed, IsEntrusted, IsInCharge, IsMember, IsWellFile, IsWellKey, IsWellObject, LoadFile, MayMove, Member, MovesWith, Registry, acting, domain_of, entry_named, member_place, same_aid, with_thing_in_domain}
 use Rattle.domain_tree.proofs.AboveBelow.{above_below_moved}
 use Rattle.domain_tree.proofs.AboveChanges.{above_moved, above_others_of_moved, none_above_root}
 use Rattle.domain_tree.proofs.Compared.{above_decided}
@@ -43,7 +43,7 @@ module _ (admitted : Admitted) (domain : List ℕ) (apart : AreApart admitted do
   before = admitted.at.registry
 
   abbrev after : Registry
-  after = moved before thing to
+  after = with_thing_in_domain before thing to
 
   abbrev entry_to : Entry → Entry
   entry_to entry = record entry { domain = to }
@@ -73,7 +73,7 @@ module _ (admitted : Admitted) (domain : List ℕ) (apart : AreApart admitted do
       out_of_reach admitted domain apart file.domain at
       (charge_place before apart.of (acting admitted) file is (subst (IsInCharge before (acting admitted)) (sym same) charge))))
 
-  there : (member : Member) → IsMember before member → IsAtOrAbove before domain (place_of member) → IsMember after member
+  there : (member : Member) → IsMember before member → IsAtOrAbove before domain (member_place member) → IsMember after member
   there (AnEntry entry) is at = elim (aid_cases entry.aid thing) [
     | inl same ↦ thing_out entry is same (subst (IsAtOrAbove before domain) same at)
     | inr other ↦ others_left (λ (e : Entry). e.aid) entry_to thing before.entries entry is other
@@ -90,7 +90,7 @@ module _ (admitted : Admitted) (domain : List ℕ) (apart : AreApart admitted do
   moved_into some above = elim (aid_cases to thing) [
     | inl same ↦
         absurd (none_above_root before thing apart.of (subst (MayMove before thing) same may) some domain
-        (subst (λ (d : List ℕ). IsAboveIn (moved before thing d) domain thing) same above))
+        (subst (λ (d : List ℕ). IsAboveIn (with_thing_in_domain before thing d) domain thing) same above))
     | inr other ↦ (by ((above_moved before thing to apart.of may some other domain).0 above), other)
   ]
     where
@@ -138,11 +138,11 @@ module _ (admitted : Admitted) (domain : List ℕ) (apart : AreApart admitted do
   owned : (owner : List ℕ) → IsDomainNamed before owner → IsAtOrAbove after domain owner → IsAtOrAbove before domain owner ⊎ IsBrought owner
   owned owner named at = was_in_tree owner (named_by owner named) at
 
-  moves_with : (member : Member) → IsAtOrAbove before thing (place_of member) → MovesWith before thing member
+  moves_with : (member : Member) → IsAtOrAbove before thing (member_place member) → MovesWith before thing member
   moves_with (AFile file) at = inr at
   moves_with member at = at
 
-  there_or_brought : (member : Member) → IsMember before member → IsAtOrAbove before domain (place_of member) ⊎ IsBrought (place_of member)
+  there_or_brought : (member : Member) → IsMember before member → IsAtOrAbove before domain (member_place member) ⊎ IsBrought (member_place member)
       → InTreeOf before domain member ⊎ IsEntrusted admitted domain member
   there_or_brought member was (inl at) = inl (was, at)
   there_or_brought member was (inr brought) = inr (entrusted member (moves_with member brought.0) brought.1 brought.2)
@@ -175,5 +175,5 @@ module _ (admitted : Admitted) (domain : List ℕ) (apart : AreApart admitted do
   new (AnObject object) (is, at) =
       there_or_brought (AnObject object) is (owned object.owner (All-contains (IsWellObject before) before.objects object apart.of.well.objects is).owner at)
 
-  pub moved_spared : SparesTree admitted (moved admitted.at.registry thing to) domain
+  pub moved_spared : SparesTree admitted (with_thing_in_domain admitted.at.registry thing to) domain
   moved_spared = spares_tree admitted domain apart after elsewhere there new

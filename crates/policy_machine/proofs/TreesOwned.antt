@@ -6,7 +6,7 @@ use Rattle.std.proofs.lemmas.Bool.{not_from_false}
 use Rattle.std.proofs.lemmas.List.Elements.{Contains-append_cases, Contains-append_right}
 use Rattle.std.proofs.lemmas.List.Sorted.{Contains-permutation, IsPermutation-sym}
 use Rattle.card_types.proofs.Members.{contains_filter, filtered}
-use Rattle.policy_machine.specs.Prelude.{AFile, AKey, Admitted, AnEntry, AnObject, Entry, IsAtOrAbove, IsMember, Key, LoadFile, Member, Object, Registry, acting, place_of}
+use Rattle.policy_machine.specs.Prelude.{AFile, AKey, Admitted, AnEntry, AnObject, Entry, IsAtOrAbove, IsMember, Key, LoadFile, Member, Object, Registry, acting, member_place}
 use Rattle.policy_machine.proofs.TreeKept.{AreApart, SparesTree, out_of_reach, spares_left}
 use Rattle.policy_machine.proofs.TreesAlike.{leaves_tree, same_entries}
 
@@ -34,13 +34,13 @@ module _ (admitted : Admitted) (domain : List ℕ) (apart : AreApart admitted do
       let same = same_entries before after entries in
       spares_left admitted domain apart after same (leaves_tree before after same domain there back)
     where
-      there : (member : Member) → IsMember before member → IsAtOrAbove before domain (place_of member) → IsMember after member
+      there : (member : Member) → IsMember before member → IsAtOrAbove before domain (member_place member) → IsMember after member
       there (AnEntry entry) is at = subst (λ (es : List Entry). Contains es entry) (sym entries) is
       there (AFile file) is at = files_there file is
       there (AKey key) is at = keys.there key is (another key.owner at)
       there (AnObject object) is at = objects.there object is (another object.owner at)
 
-      back : (member : Member) → IsMember after member → IsAtOrAbove before domain (place_of member) → IsMember before member
+      back : (member : Member) → IsMember after member → IsAtOrAbove before domain (member_place member) → IsMember before member
       back (AnEntry entry) is at = subst (λ (es : List Entry). Contains es entry) entries is
       back (AFile file) is at = files_back file is at
       back (AKey key) is at = keys.back key is (another key.owner at)

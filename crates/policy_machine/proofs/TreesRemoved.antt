@@ -8,7 +8,7 @@ use Rattle.card_types.proofs.LeastOfList.{found_fits}
 use Rattle.card_types.proofs.Members.{contains_filter, filtered}
 use Rattle.card_types.proofs.NamedThings.{aid_differs, member_named}
 use Rattle.card_types.proofs.SameAid.{aid_same_itself}
-use Rattle.policy_machine.specs.Prelude.{AFile, AKey, Admitted, AnEntry, AnObject, ComesFrom, Entry, IsAboveIn, IsAtOrAbove, IsInCharge, IsMember, IsOfCard, IsPath, IsToGo, IsWellKey, IsWellObject, Key, LoadFile, Member, Object, Registry, acting, domain_of, entry_named, place_of, same_aid, without_applications, without_thing}
+use Rattle.policy_machine.specs.Prelude.{AFile, AKey, Admitted, AnEntry, AnObject, ComesFrom, Entry, IsAboveIn, IsAtOrAbove, IsInCharge, IsMember, IsOfCard, IsPath, IsToGo, IsWellKey, IsWellObject, Key, LoadFile, Member, Object, Registry, acting, domain_of, entry_named, member_place, same_aid, without_applications, without_thing}
 use Rattle.domain_tree.proofs.DomainsStay.{domains_after_applications, domains_after_entry}
 use Rattle.policy_machine.proofs.ChargeReaches.{charge_above, charge_place, entry_has_domain}
 use Rattle.policy_machine.proofs.Strangers.{named_has_domain}
@@ -63,7 +63,7 @@ module _ (admitted : Admitted) (domain : List ℕ) (apart : AreApart admitted do
   owner_stays : (owner : List ℕ) → domain_of before owner ≢ None → IsAtOrAbove before domain owner → not (same_aid owner thing) ≡ true
   owner_stays owner has at = keeps_name owner (λ same. stays owner at has (inl same))
 
-  there : (member : Member) → IsMember before member → IsAtOrAbove before domain (place_of member) → IsMember after member
+  there : (member : Member) → IsMember before member → IsAtOrAbove before domain (member_place member) → IsMember after member
   there (AnEntry entry) is at =
       let has = entry_has_domain before apart.of entry is in
       contains_filter (λ (e : Entry). not (same_aid e.aid thing)) (without_applications before thing).entries entry
@@ -105,4 +105,4 @@ module _ (admitted : Admitted) (domain : List ℕ) (apart : AreApart admitted do
 
   pub removed_spared : SparesTree admitted (without_thing admitted.at.registry thing) domain
   removed_spared =
-      spares_tree admitted domain apart after elsewhere there (λ member in_it. inl (was member in_it.0, was_in_tree (place_of member) in_it.1))
+      spares_tree admitted domain apart after elsewhere there (λ member in_it. inl (was member in_it.0, was_in_tree (member_place member) in_it.1))

@@ -114,9 +114,9 @@ pub record Admitted : Type 0 where
   pub session : Option Session
 
 -- A command is taken as it is, or where it is protected, as what it opens to in the session of its channel.
-abbrev pub IsTaken : State → Apdu → Option Session → List ℕ → Type 0
-IsTaken state command None plain = (is_protected command ≡ false) × (plain ≡ command.body)
-IsTaken state command (Some accepted) plain =
+abbrev pub IsTakenAs : State → Apdu → Option Session → List ℕ → Type 0
+IsTakenAs state command None plain = (is_protected command ≡ false) × (plain ≡ command.body)
+IsTakenAs state command (Some accepted) plain =
     InSession state command (λ session. Opens session command plain × (accepted ≡ accepting session command))
 
 abbrev pub in_plain : Apdu → List ℕ → Apdu
@@ -137,4 +137,4 @@ admitted_as state command session plain =
 abbrev pub Admits : State → List ℕ → Admitted → Type 0
 Admits state bytes admitted =
     IsFirst (GeneralFails state bytes) general_rules None
-    × Of bytes (λ command. (session : Option Session) × (plain : List ℕ) × IsTaken state command session plain × (admitted ≡ admitted_as state command session plain))
+    × Of bytes (λ command. (session : Option Session) × (plain : List ℕ) × IsTakenAs state command session plain × (admitted ≡ admitted_as state command session plain))

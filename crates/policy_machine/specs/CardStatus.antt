@@ -13,7 +13,7 @@ use Rattle.policy_machine.specs.Refusal.{Refusal, refusal}
 use Rattle.policy_machine.specs.declared.card_status.RuleSC.{RuleSC}
 use Rattle.policy_machine.specs.declared.card_status.RuleSC.TheVariants.{SC1, SC2}
 use Rattle.policy_machine.specs.declared.rule.Rule.TheVariants.{SC}
-use Rattle.policy_machine.specs.ManagedForm.{ManagedForm, content_form, ruled}
+use Rattle.policy_machine.specs.ManagedForm.{ManagedForm, content_form, ordered_rules}
 use Rattle.card_types.specs.Registry.{Registry}
 use Rattle.policy_machine.specs.declared.management.RuleM.TheVariants.{M2, M3}
 
@@ -68,7 +68,7 @@ abbrev pub managed_card_status : ManagedForm
 managed_card_status = record {
   judged = record (content_form {Asked = Unit {0}} 0xF0 CardStatusParameters (λ p1 p2 body asked. Unit {0})) {
     first_rules = M2 ∷ M3 ∷ [];
-    own = ruled SC (SC1 ∷ SC2 ∷ []) (λ admitted asked. SettingCardFails admitted);
+    own = ordered_rules SC (SC1 ∷ SC2 ∷ []) (λ admitted asked. SettingCardFails admitted);
   };
   becomes = λ admitted asked. CardIsSet admitted;
   reply = λ asked. [];

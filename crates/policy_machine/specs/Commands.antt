@@ -28,25 +28,25 @@ use Rattle.policy_machine.specs.declared.rule.RulePS.TheVariants.{P, S}
 use Rattle.policy_machine.specs.ManagedForm.{command_form}
 
 -- these forms where the test holds, and others where it does not
-abbrev pub listed : Bool → List CommandForm → List CommandForm → List CommandForm
-listed true these others = these
-listed false these others = others
+abbrev pub forms_if : Bool → List CommandForm → List CommandForm → List CommandForm
+forms_if true these others = these
+forms_if false these others = others
 
 -- the forms of the instruction with this byte
 abbrev pub forms_of : ℕ → List CommandForm
 forms_of ins =
-    listed (ins == select.instruction) (select ∷ [])
-    (listed (ins == manage_channel.instruction) (manage_channel ∷ [])
-    (listed (ins == get_data.instruction) (get_data ∷ [])
-    (listed (ins == initialize_update.instruction) (initialize_update ∷ [])
-    (listed (ins == external_authenticate.instruction) (external_authenticate ∷ [])
-    (listed (ins == managed_put_key.judged.instruction) (command_form managed_put_key ∷ [])
-    (listed (ins == managed_store_data.judged.instruction) (command_form managed_store_data ∷ [])
-    (listed (ins == managed_delete_key.judged.instruction) (command_form managed_delete_key ∷ command_form managed_delete_object ∷ [])
-    (listed (ins == managed_install.judged.instruction) (command_form managed_install ∷ command_form managed_selectable ∷ (command_form managed_extradition) ∷ install_load ∷ [])
-    (listed (ins == managed_card_status.judged.instruction) (command_form managed_card_status ∷ command_form managed_entry_status ∷ [])
-    (listed (ins == loading.instruction) (loading ∷ [])
-    (listed (ins == get_status.instruction) (get_status ∷ []) [])))))))))))
+    forms_if (ins == select.instruction) (select ∷ [])
+    (forms_if (ins == manage_channel.instruction) (manage_channel ∷ [])
+    (forms_if (ins == get_data.instruction) (get_data ∷ [])
+    (forms_if (ins == initialize_update.instruction) (initialize_update ∷ [])
+    (forms_if (ins == external_authenticate.instruction) (external_authenticate ∷ [])
+    (forms_if (ins == managed_put_key.judged.instruction) (command_form managed_put_key ∷ [])
+    (forms_if (ins == managed_store_data.judged.instruction) (command_form managed_store_data ∷ [])
+    (forms_if (ins == managed_delete_key.judged.instruction) (command_form managed_delete_key ∷ command_form managed_delete_object ∷ [])
+    (forms_if (ins == managed_install.judged.instruction) (command_form managed_install ∷ command_form managed_selectable ∷ (command_form managed_extradition) ∷ install_load ∷ [])
+    (forms_if (ins == managed_card_status.judged.instruction) (command_form managed_card_status ∷ command_form managed_entry_status ∷ [])
+    (forms_if (ins == loading.instruction) (loading ∷ [])
+    (forms_if (ins == get_status.instruction) (get_status ∷ []) [])))))))))))
 
 -- it holds of one of these forms
 abbrev pub OneOf : (CommandForm → Type 0) → List CommandForm → Type 0

@@ -115,8 +115,8 @@ pub record IsUnconfirmed (changed : Registry) (reply : List ℕ) (done : Effect)
   pub body : done.body ≡ reply
 
 -- the reply of a command that could be confirmed, and is not
-abbrev pub unconfirmed : List ℕ
-unconfirmed = 0x00 ∷ []
+abbrev pub no_confirmation : List ℕ
+no_confirmation = 0x00 ∷ []
 
 -- A command that was about these things, and left this registry but for a receipt number, is answered: by a receipt, or by this reply.
 abbrev pub IsAnswered : Type 0 → Admitted → List (List ℕ) → Registry → List ℕ → Effect → Type 0

@@ -3,14 +3,14 @@ use Rattle.std.specs.Prelude.{◌≡◌, ◌≢◌, ◌⊎◌, ℕ, ◌<◌, Lis
 use Rattle.card_types.specs.Aid.{same_aid}
 use Rattle.card_types.specs.Well.{IsRoot}
 use Rattle.policy_machine.specs.Admission.{Admitted}
-use Rattle.policy_machine.specs.Delegation.{unconfirmed}
+use Rattle.policy_machine.specs.Delegation.{no_confirmation}
 use Rattle.policy_machine.specs.KeySets.{counters_but, has_key_version, keys_but, with_keys}
 use Rattle.policy_machine.specs.Management.{acting}
 use Rattle.policy_machine.specs.Refusal.{Refusal, refusal}
 use Rattle.policy_machine.specs.declared.delete_key.RuleDK.{RuleDK}
 use Rattle.policy_machine.specs.declared.delete_key.RuleDK.TheVariants.{DK1, DK2}
 use Rattle.policy_machine.specs.declared.rule.Rule.TheVariants.{DK}
-use Rattle.policy_machine.specs.ManagedForm.{ManagedForm, content_form, ruled}
+use Rattle.policy_machine.specs.ManagedForm.{ManagedForm, content_form, ordered_rules}
 
 -- P1 is 00; P2 says whether what is related to an object goes with it (80), and makes no difference to a key
 abbrev pub DeleteParameters : ℕ → ℕ → Type 0
@@ -54,8 +54,8 @@ DeletingKeyFails admitted chosen DK2 = IsLastSet admitted chosen.version
 -- The keys go, and the sequence counter of a key set with them.
 abbrev pub managed_delete_key : ManagedForm
 managed_delete_key = record {
-  judged = record (content_form 0xE4 DeleteParameters (λ p1 p2. AsksToDeleteKey)) { own = ruled DK (DK1 ∷ DK2 ∷ []) DeletingKeyFails };
+  judged = record (content_form 0xE4 DeleteParameters (λ p1 p2. AsksToDeleteKey)) { own = ordered_rules DK (DK1 ∷ DK2 ∷ []) DeletingKeyFails };
   becomes = λ admitted chosen changed. changed ≡ with_keys admitted.at.registry
       (keys_but (acting admitted) chosen.version admitted.at.registry.keys) (counters_but (acting admitted) chosen.version admitted.at.registry.counters);
-  reply = λ chosen. unconfirmed;
+  reply = λ chosen. no_confirmation;
 }

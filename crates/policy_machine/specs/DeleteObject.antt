@@ -10,14 +10,14 @@ use Rattle.card_types.specs.declared.factory.TheConstants.{FACTORY_FILE, ISSUER}
 use Rattle.policy_machine.specs.Admission.{Admitted}
 use Rattle.policy_machine.specs.Charge.{IsInCharge}
 use Rattle.policy_machine.specs.DeleteKey.{DeleteParameters}
-use Rattle.policy_machine.specs.Delegation.{Approval, Holds, MayManage, delegation_rules, unconfirmed}
+use Rattle.policy_machine.specs.Delegation.{Approval, Holds, MayManage, delegation_rules, no_confirmation}
 use Rattle.policy_machine.specs.Management.{acting}
 use Rattle.policy_machine.specs.Refusal.{Refusal, refusal}
 use Rattle.policy_machine.specs.State.{Volatile, channel_at}
 use Rattle.policy_machine.specs.declared.delete_object.RuleDO.{RuleDO}
 use Rattle.policy_machine.specs.declared.delete_object.RuleDO.TheVariants.{DO1, DO2, DO3, DO4}
 use Rattle.policy_machine.specs.declared.rule.Rule.TheVariants.{DO}
-use Rattle.policy_machine.specs.ManagedForm.{ManagedForm, content_form, ruled}
+use Rattle.policy_machine.specs.ManagedForm.{ManagedForm, content_form, ordered_rules}
 
 -- what is asked for: the AID of the thing, and what approves it
 pub record DeletionAsked : Type 0 where
@@ -99,9 +99,9 @@ without_thing registry aid = without_file (without_entry (without_applications r
 abbrev pub managed_delete_object : ManagedForm
 managed_delete_object = record {
   judged = record (content_form 0xE4 DeleteParameters (λ p1 p2. AsksToDelete)) {
-    own = ruled DO (DO1 ∷ DO2 ∷ DO3 ∷ DO4 ∷ []) DeletingFails;
+    own = ordered_rules DO (DO1 ∷ DO2 ∷ DO3 ∷ DO4 ∷ []) DeletingFails;
     delegation = record { is_delegated = IsDelegated; approval = λ asked. asked.approval; about = λ admitted asked. asked.aid ∷ []; rules = delegation_rules };
   };
   becomes = λ admitted asked changed. changed ≡ without_thing admitted.at.registry asked.aid;
-  reply = λ asked. unconfirmed;
+  reply = λ asked. no_confirmation;
 }

@@ -17,7 +17,7 @@ use Rattle.policy_machine.specs.Refusal.{Refusal, refusal}
 use Rattle.policy_machine.specs.declared.entry_status.RuleSS.{RuleSS}
 use Rattle.policy_machine.specs.declared.entry_status.RuleSS.TheVariants.{SS1, SS2, SS3, SS4}
 use Rattle.policy_machine.specs.declared.rule.Rule.TheVariants.{SS}
-use Rattle.policy_machine.specs.ManagedForm.{ManagedForm, content_form, ruled}
+use Rattle.policy_machine.specs.ManagedForm.{ManagedForm, content_form, ordered_rules}
 use Rattle.policy_machine.specs.declared.management.RuleM.TheVariants.{M2, M3}
 
 -- P1 names one entry (40), or a security domain with all entries below it (60), and the data field is its AID; P2 says what it
@@ -100,7 +100,7 @@ abbrev pub managed_entry_status : ManagedForm
 managed_entry_status = record {
   judged = record (content_form {Asked = Unit {0}} 0xF0 EntryStatusParameters (λ p1 p2 body asked. IsAid body)) {
     first_rules = M2 ∷ M3 ∷ [];
-    own = ruled SS (SS1 ∷ SS2 ∷ SS3 ∷ SS4 ∷ []) (λ admitted asked. SettingStatusFails admitted);
+    own = ordered_rules SS (SS1 ∷ SS2 ∷ SS3 ∷ SS4 ∷ []) (λ admitted asked. SettingStatusFails admitted);
   };
   becomes = λ admitted asked changed. OneIsSet admitted changed ⊎ TreeIsSet admitted changed;
   reply = λ asked. [];

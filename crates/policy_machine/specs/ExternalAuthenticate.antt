@@ -3,7 +3,7 @@ use Rattle.std.specs.Prelude.{◌≡◌, ℕ, List, [], ◌∷◌, None, Some, l
 use Rattle.card_types.specs.Level.{code_of}
 use Rattle.card_types.specs.declared.level.Level.{Level}
 use Rattle.scp03_card.specs.Offer.{Offer}
-use Rattle.scp03_card.specs.Session.{HasCryptogram, HasMac, answered}
+use Rattle.scp03_card.specs.Session.{HasCryptogram, HasMac, session_from}
 use Rattle.policy_machine.specs.Admission.{Admitted}
 use Rattle.policy_machine.specs.CommandForm.{CommandForm, unreceipted_form}
 use Rattle.policy_machine.specs.State.{Effect, Secured, offer_on, with_secure_channel}
@@ -34,27 +34,27 @@ abbrev pub rules_before_form : ℕ → List Rule
 rules_before_form ins = if ins == 0x82 then EA EA1 ∷ [] else []
 
 -- the offer that the command answers, and the level that it asks for
-abbrev pub Answers : Admitted → Offer → Level → Type 0
-Answers admitted offer level = (offer_on admitted.at.volatile admitted.channel ≡ Some offer) × (code_of level ≡ admitted.command.p1)
+abbrev pub AnswersOffer : Admitted → Offer → Level → Type 0
+AnswersOffer admitted offer level = (offer_on admitted.at.volatile admitted.channel ≡ Some offer) × (code_of level ≡ admitted.command.p1)
 
 abbrev pub ExternalAuthenticateFails : Admitted → Rule → Type 0
 -- the channel has no offer
 ExternalAuthenticateFails admitted (EA EA1) = offer_on admitted.at.volatile admitted.channel ≡ None
 -- the host cryptogram is another
 ExternalAuthenticateFails admitted (EA EA2) =
-    (offer : Offer) × (level : Level) × Answers admitted offer level × (HasCryptogram offer admitted.command.body → ⊥)
+    (offer : Offer) × (level : Level) × AnswersOffer admitted offer level × (HasCryptogram offer admitted.command.body → ⊥)
 -- the C-MAC is another
 ExternalAuthenticateFails admitted (EA EA3) =
-    (offer : Offer) × (level : Level) × Answers admitted offer level × (HasMac offer level admitted.command.body → ⊥)
+    (offer : Offer) × (level : Level) × AnswersOffer admitted offer level × (HasMac offer level admitted.command.body → ⊥)
 ExternalAuthenticateFails admitted rule = ⊥
 
 -- The offer becomes a session at that level.
 pub record ExternalAuthenticateEffect (admitted : Admitted) (done : Effect) : Type 0 where
   pub offer : Offer
   pub level : Level
-  pub answers : Answers admitted offer level
+  pub answers : AnswersOffer admitted offer level
   pub registry : done.state.registry ≡ admitted.at.registry
-  pub volatile : done.state.volatile ≡ with_secure_channel admitted.at.volatile admitted.channel (Secured (answered offer level))
+  pub volatile : done.state.volatile ≡ with_secure_channel admitted.at.volatile admitted.channel (Secured (session_from offer level))
   pub body : done.body ≡ []
   pub status : done.status ≡ 0x9000
 

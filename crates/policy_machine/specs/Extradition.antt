@@ -5,7 +5,7 @@ use Rattle.std.specs.Prelude.{◌≡◌, ◌≢◌, ◌⊎◌, ℕ, List, [], �
 use Rattle.card_types.specs.Aid.{IsAid}
 use Rattle.card_types.specs.Privileges.{authorized_management, delegated_management}
 use Rattle.card_types.specs.Registry.{Key, LoadFile, Registry, domain_of, entry_named, file_named}
-use Rattle.card_types.specs.RegistryChange.{moved}
+use Rattle.card_types.specs.RegistryChange.{with_thing_in_domain}
 use Rattle.card_types.specs.Well.{IsDomainNamed}
 use Rattle.card_types.specs.declared.factory.TheConstants.{FACTORY_FILE, ISSUER}
 use Rattle.card_types.specs.declared.life.Life.TheVariants.{Personalized}
@@ -13,14 +13,14 @@ use Rattle.card_types.specs.declared.life.LifeMark.{LifeMark}
 use Rattle.domain_tree.specs.Above.{IsAboveIn}
 use Rattle.policy_machine.specs.Admission.{Admitted}
 use Rattle.policy_machine.specs.Charge.{IsAtOrAbove, IsInCharge}
-use Rattle.policy_machine.specs.Delegation.{Holds, IsVerifier, MayManage, NoVerifier, unconfirmed}
+use Rattle.policy_machine.specs.Delegation.{Holds, IsVerifier, MayManage, NoVerifier, no_confirmation}
 use Rattle.policy_machine.specs.InstallFields.{InstallData, IsInstallData, approval_in}
 use Rattle.policy_machine.specs.Management.{acting}
 use Rattle.policy_machine.specs.Refusal.{Refusal, refusal}
 use Rattle.policy_machine.specs.declared.extradition.RuleEX.{RuleEX}
 use Rattle.policy_machine.specs.declared.extradition.RuleEX.TheVariants.{EX1, EX2, EX3, EX4, EX5, EX6, EX7}
 use Rattle.policy_machine.specs.declared.rule.Rule.TheVariants.{EX}
-use Rattle.policy_machine.specs.ManagedForm.{ManagedForm, content_form, ruled, to_holders}
+use Rattle.policy_machine.specs.ManagedForm.{ManagedForm, content_form, ordered_rules, to_holders}
 
 abbrev pub ExtraditionParameters : ℕ → ℕ → Type 0
 ExtraditionParameters p1 p2 = (p1 ≡ 0x10) × (p2 ≡ 0x00)
@@ -92,9 +92,9 @@ ExtraditingFails admitted given EX7 =
 abbrev pub managed_extradition : ManagedForm
 managed_extradition = record {
   judged = record (content_form 0xE6 ExtraditionParameters (λ p1 p2. AsksToExtradite)) {
-    own = ruled EX (EX1 ∷ EX2 ∷ EX3 ∷ EX4 ∷ EX5 ∷ EX6 ∷ EX7 ∷ []) ExtraditingFails;
+    own = ordered_rules EX (EX1 ∷ EX2 ∷ EX3 ∷ EX4 ∷ EX5 ∷ EX6 ∷ EX7 ∷ []) ExtraditingFails;
     delegation = to_holders approval_in (λ admitted given. domain_of_thing admitted.at.registry given.third ∷ given.third ∷ given.first ∷ []);
   };
-  becomes = λ admitted given changed. changed ≡ moved admitted.at.registry given.third given.first;
-  reply = λ given. unconfirmed;
+  becomes = λ admitted given changed. changed ≡ with_thing_in_domain admitted.at.registry given.third given.first;
+  reply = λ given. no_confirmation;
 }

@@ -165,14 +165,14 @@ abbrev pub with_place : Volatile → ℕ → Place → Volatile
 with_place volatile number place = with_channel volatile number (channel_at_place place (channel_at volatile number))
 
 -- the place that the channel has once these things were shown
-abbrev pub place_behind : Admitted → List Thing → Place
-place_behind admitted shown = record { kind = admitted.command.p1; body = admitted.command.body; last = last_aid [] shown }
+abbrev pub place_after : Admitted → List Thing → Place
+place_after admitted shown = record { kind = admitted.command.p1; body = admitted.command.body; last = last_aid [] shown }
 
 -- Where things are left the status word says so, and the channel has a place, at which a next command goes on.
 abbrev pub IsLeftAt : Admitted → Effect → List Thing → List Thing → Type 0
 IsLeftAt admitted done shown [] = (done.state.volatile ≡ admitted.at.volatile) × (done.status ≡ 0x9000)
 IsLeftAt admitted done shown (next ∷ left) =
-    (done.state.volatile ≡ with_place admitted.at.volatile admitted.channel (place_behind admitted shown)) × (done.status ≡ 0x6310)
+    (done.state.volatile ≡ with_place admitted.at.volatile admitted.channel (place_after admitted shown)) × (done.status ≡ 0x6310)
 
 abbrev pub get_status_refusal : RuleGS → Refusal
 get_status_refusal GS1 = refusal (codes "GS1") 0x6985

@@ -1,10 +1,10 @@
 -- INITIALIZE UPDATE (GlobalPlatform Amendment D, 7.1.1): the card offers a session.
 use Rattle.std.specs.Prelude.{◌≡◌, ◌≢◌, ℕ, List, ◌∷◌, ◌++◌, [], true, Option, None, Some, length, replicate, codes}
-use Rattle.card_types.specs.Counters.{raised}
+use Rattle.card_types.specs.Counters.{with_counter_raised}
 use Rattle.card_types.specs.Registry.{Counter, Key, Object, Registry, key_named, object_named}
 use Rattle.card_types.specs.declared.factory.TheConstants.{ISSUER}
 use Rattle.card_types.specs.declared.limits.TheConstants.{COUNTER_LIMIT}
-use Rattle.scp03_card.specs.Offer.{Offer, card_cryptogram, counter_bytes, offered}
+use Rattle.scp03_card.specs.Offer.{Offer, card_cryptogram, counter_bytes, new_offer}
 use Rattle.policy_machine.specs.Admission.{Admitted}
 use Rattle.policy_machine.specs.CommandForm.{CommandForm, unreceipted_form}
 use Rattle.policy_machine.specs.KeySets.{UsesSet}
@@ -61,7 +61,7 @@ pub record IsOfferOf (admitted : Admitted) (owner : List ℕ) (counter : Counter
   pub key_enc : key_named admitted.at.registry owner counter.version 1 ≡ Some enc
   pub key_mac : key_named admitted.at.registry owner counter.version 2 ≡ Some mac
   pub key_dek : key_named admitted.at.registry owner counter.version 3 ≡ Some dek
-  pub is : offer ≡ offered enc.bytes mac.bytes dek.bytes counter.number (acting admitted) admitted.command.body
+  pub is : offer ≡ new_offer enc.bytes mac.bytes dek.bytes counter.number (acting admitted) admitted.command.body
 
 -- the reply: diversification data, key version number, SCP03 with the i parameter 70, challenge, cryptogram and counter
 abbrev pub offer_body : Registry → List ℕ → Counter → Offer → List ℕ
@@ -76,7 +76,7 @@ pub record InitializeUpdateEffect (admitted : Admitted) (done : Effect) : Type 0
   pub offer : Offer
   pub asked : AsksForSet admitted owner counter
   pub is_offer : IsOfferOf admitted owner counter offer
-  pub registry : done.state.registry ≡ raised admitted.at.registry owner counter.version
+  pub registry : done.state.registry ≡ with_counter_raised admitted.at.registry owner counter.version
   pub volatile : done.state.volatile ≡ with_secure_channel admitted.at.volatile admitted.channel (Offered offer)
   pub body : done.body ≡ offer_body admitted.at.registry owner counter offer
   pub status : done.status ≡ 0x9000

@@ -14,14 +14,14 @@ use Rattle.card_types.specs.declared.limits.TheConstants.{ENTRIES}
 use Rattle.card_types.specs.declared.privileges.Privileges.{Privileges}
 use Rattle.policy_machine.specs.Admission.{Admitted}
 use Rattle.policy_machine.specs.Charge.{IsFileInCharge}
-use Rattle.policy_machine.specs.Delegation.{Holds, MayManage, unconfirmed}
+use Rattle.policy_machine.specs.Delegation.{Holds, MayManage, no_confirmation}
 use Rattle.policy_machine.specs.InstallFields.{InstallData, IsInstallData, approval_in}
 use Rattle.policy_machine.specs.Management.{acting}
 use Rattle.policy_machine.specs.Refusal.{Refusal, refusal}
 use Rattle.policy_machine.specs.declared.install_application.RuleII.{RuleII}
 use Rattle.policy_machine.specs.declared.install_application.RuleII.TheVariants.{II1, II2, II3, II4, II5, II6, II7}
 use Rattle.policy_machine.specs.declared.rule.Rule.TheVariants.{II}
-use Rattle.policy_machine.specs.ManagedForm.{ManagedForm, content_form, ruled, to_holders}
+use Rattle.policy_machine.specs.ManagedForm.{ManagedForm, content_form, ordered_rules, to_holders}
 
 -- P1 is 04, or 0C where the application is made selectable too; P2 is 00
 abbrev pub InstallParameters : ℕ → ℕ → Type 0
@@ -114,9 +114,9 @@ InstallingFails admitted asked II7 = ENTRIES ≤ length admitted.at.registry.ent
 abbrev pub managed_install : ManagedForm
 managed_install = record {
   judged = record (content_form 0xE6 InstallParameters (λ p1 p2. AsksToInstall)) {
-    own = ruled II (II1 ∷ II2 ∷ II3 ∷ II4 ∷ II5 ∷ II6 ∷ II7 ∷ []) InstallingFails;
+    own = ordered_rules II (II1 ∷ II2 ∷ II3 ∷ II4 ∷ II5 ∷ II6 ∷ II7 ∷ []) InstallingFails;
     delegation = to_holders (λ asked. approval_in asked.given) (λ admitted asked. asked.given.first ∷ asked.given.third ∷ []);
   };
   becomes = λ admitted asked. IsEntryAdded (entry_made admitted asked) admitted.at.registry;
-  reply = λ asked. unconfirmed;
+  reply = λ asked. no_confirmation;
 }

@@ -20,7 +20,7 @@ use Rattle.policy_machine.specs.State.{Effect, LoadSession, with_load}
 use Rattle.policy_machine.specs.declared.install_load.RuleIL.{RuleIL}
 use Rattle.policy_machine.specs.declared.install_load.RuleIL.TheVariants.{IL1, IL2, IL3, IL4, IL5, IL6, IL7}
 use Rattle.policy_machine.specs.declared.rule.Rule.TheVariants.{IL, TK}
-use Rattle.policy_machine.specs.ManagedForm.{JudgedForm, content_form, judged_form, ruled, to_holders}
+use Rattle.policy_machine.specs.ManagedForm.{JudgedForm, content_form, judged_form, ordered_rules, to_holders}
 
 abbrev pub InstallLoadParameters : ℕ → ℕ → Type 0
 InstallLoadParameters p1 p2 = (p1 ≡ 0x02) × (p2 ≡ 0x00)
@@ -88,7 +88,7 @@ InstallingLoadFails admitted given IL7 = FILES ≤ length admitted.at.registry.f
 -- nothing is receipted before the last block
 abbrev pub judged_install_load : JudgedForm
 judged_install_load = record (content_form 0xE6 InstallLoadParameters (λ p1 p2. AsksToLoad)) {
-  own = ruled IL (IL1 ∷ IL2 ∷ IL3 ∷ IL4 ∷ IL5 ∷ IL6 ∷ IL7 ∷ []) InstallingLoadFails;
+  own = ordered_rules IL (IL1 ∷ IL2 ∷ IL3 ∷ IL4 ∷ IL5 ∷ IL6 ∷ IL7 ∷ []) InstallingLoadFails;
   delegation = record (to_holders load_approval (λ admitted given. [])) { rules = map TK token_rules };
 }
 

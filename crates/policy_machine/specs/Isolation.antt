@@ -18,7 +18,7 @@ use Rattle.policy_machine.specs.ManagedForm.{command_form}
 use Rattle.policy_machine.specs.Management.{acting}
 use Rattle.policy_machine.specs.State.{State, selected_on}
 use Rattle.policy_machine.specs.Step.{Outcome}
-use Rattle.policy_machine.specs.Trees.{AFile, Member, place_of}
+use Rattle.policy_machine.specs.Trees.{AFile, Member, member_place}
 
 -- The bytes are a command that may change the registry, no rule refuses it, and it acts for this domain: the one that is selected on
 -- its channel.
@@ -39,7 +39,7 @@ Spares state bytes outcome domain = (one : List ℕ) → ActsFor state bytes out
 -- it moves with the thing: it is the Executable Load File itself, or has its place at the thing or below it
 abbrev pub MovesWith : Registry → List ℕ → Member → Type 0
 MovesWith registry thing (AFile file) = (file.aid ≡ thing) ⊎ IsAtOrAbove registry thing file.domain
-MovesWith registry thing member = IsAtOrAbove registry thing (place_of member)
+MovesWith registry thing member = IsAtOrAbove registry thing (member_place member)
 
 -- A delegated extradition moves the member, with the thing, to the domain or to one below it. The verifier of the domain that it acts
 -- for is above the domain that gets it, and has signed the token.

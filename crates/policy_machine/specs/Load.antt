@@ -8,7 +8,7 @@ use Rattle.card_types.specs.RegistryChange.{IsFileAdded}
 use Rattle.policy_machine.specs.Admission.{Admitted}
 use Rattle.policy_machine.specs.Charge.{IsAtOrAbove}
 use Rattle.policy_machine.specs.CommandForm.{CommandForm}
-use Rattle.policy_machine.specs.Delegation.{Holds, IsAnswered, unconfirmed, ReceiptFails}
+use Rattle.policy_machine.specs.Delegation.{Holds, IsAnswered, no_confirmation, ReceiptFails}
 use Rattle.policy_machine.specs.LoadBlocks.{Block, BringsBytes, HasNoLength, HasNoRoom, HasOtherCount, HasOtherHash, with_block}
 use Rattle.policy_machine.specs.Management.{ManagementFails, acting}
 use Rattle.policy_machine.specs.Refusal.{Refusal, refusal}
@@ -96,7 +96,7 @@ abbrev pub LoadConfirms : Admitted → List (List ℕ) → Type 0
 LoadConfirms admitted aids = Holds admitted delegated_management × (admitted.command.p1 ≡ 0x80) × InLoad admitted (λ load. aids ≡ about_load load)
 
 -- More blocks come: the load session goes on as this one, and the registry stays as it is.
-pub record GoesOn (admitted : Admitted) (load : LoadSession) (done : Effect) : Type 0 where
+pub record LoadGoesOn (admitted : Admitted) (load : LoadSession) (done : Effect) : Type 0 where
   pub more : admitted.command.p1 ≡ 0x00
   pub registry : done.state.registry ≡ admitted.at.registry
   pub volatile : done.state.volatile ≡ record admitted.at.volatile { load = Some load }
@@ -107,7 +107,7 @@ pub record EndsLoad (admitted : Admitted) (load : LoadSession) (done : Effect) :
   pub last : admitted.command.p1 ≡ 0x80
   pub changed : Registry
   pub added : IsFileAdded (file_of_load load) admitted.at.registry changed
-  pub answered : IsAnswered (Holds admitted delegated_management) admitted (about_load load) changed unconfirmed done
+  pub answered : IsAnswered (Holds admitted delegated_management) admitted (about_load load) changed no_confirmation done
   pub volatile : done.state.volatile ≡ without_load admitted.at.volatile admitted.channel
 
 -- The block is counted and its bytes go after those that came.
@@ -117,7 +117,7 @@ pub record LoadEffect (admitted : Admitted) (done : Effect) : Type 0 where
   pub size : ℕ
   pub bytes : List ℕ
   pub brings : BringsBytes load.announced (block_of admitted.command) size bytes
-  pub taken : GoesOn admitted (with_block load size bytes) done ⊎ EndsLoad admitted (with_block load size bytes) done
+  pub taken : LoadGoesOn admitted (with_block load size bytes) done ⊎ EndsLoad admitted (with_block load size bytes) done
   pub status : done.status ≡ 0x9000
 
 -- LOAD

@@ -10,14 +10,14 @@ use Rattle.card_types.specs.declared.life.LifeMark.{LifeMark}
 use Rattle.card_types.specs.declared.privileges.Privileges.{Privileges}
 use Rattle.domain_tree.specs.Above.{IsAboveIn}
 use Rattle.policy_machine.specs.Admission.{Admitted}
-use Rattle.policy_machine.specs.Delegation.{MayManage, unconfirmed}
+use Rattle.policy_machine.specs.Delegation.{MayManage, no_confirmation}
 use Rattle.policy_machine.specs.InstallFields.{InstallData, IsInstallData, approval_in}
 use Rattle.policy_machine.specs.Management.{acting}
 use Rattle.policy_machine.specs.Refusal.{Refusal, refusal}
 use Rattle.policy_machine.specs.declared.make_selectable.RuleMS.{RuleMS}
 use Rattle.policy_machine.specs.declared.make_selectable.RuleMS.TheVariants.{MS1, MS2, MS3, MS4, MS5}
 use Rattle.policy_machine.specs.declared.rule.Rule.TheVariants.{MS}
-use Rattle.policy_machine.specs.ManagedForm.{ManagedForm, content_form, ruled, to_holders}
+use Rattle.policy_machine.specs.ManagedForm.{ManagedForm, content_form, ordered_rules, to_holders}
 
 abbrev pub MakeSelectableParameters : ℕ → ℕ → Type 0
 MakeSelectableParameters p1 p2 = (p1 ≡ 0x08) × (p2 ≡ 0x00)
@@ -59,9 +59,9 @@ MakingSelectableFails admitted given MS5 =
 abbrev pub managed_selectable : ManagedForm
 managed_selectable = record {
   judged = record (content_form 0xE6 MakeSelectableParameters (λ p1 p2. AsksToMakeSelectable)) {
-    own = ruled MS (MS1 ∷ MS2 ∷ MS3 ∷ MS4 ∷ MS5 ∷ []) MakingSelectableFails;
+    own = ordered_rules MS (MS1 ∷ MS2 ∷ MS3 ∷ MS4 ∷ MS5 ∷ []) MakingSelectableFails;
     delegation = to_holders approval_in (λ admitted given. given.third ∷ []);
   };
   becomes = λ admitted given changed. changed ≡ with_life admitted.at.registry given.third (record { life = Selectable; locked = false });
-  reply = λ given. unconfirmed;
+  reply = λ given. no_confirmation;
 }

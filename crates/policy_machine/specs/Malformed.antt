@@ -13,7 +13,7 @@ IsMalformed ins p1 p2 body found =
     ⊎ ((found ≡ PS S) × HasParameters ins p1 p2 × (HasDataField ins p1 p2 body → ⊥))
 
 -- the form does not take this P1 and P2, or with these not this data field
-abbrev pub IsRefusedBy : CommandForm → ℕ → ℕ → List ℕ → Rule → Type 0
-IsRefusedBy form p1 p2 body found =
+abbrev pub FormRefuses : CommandForm → ℕ → ℕ → List ℕ → Rule → Type 0
+FormRefuses form p1 p2 body found =
     ((found ≡ PS P) × (form.takes p1 p2 → ⊥))
     ⊎ ((found ≡ PS S) × form.takes p1 p2 × (form.takes_field p1 p2 body → ⊥))

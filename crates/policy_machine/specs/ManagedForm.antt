@@ -37,8 +37,8 @@ pub record OwnRules (Asked : Type 0) : Type 1 where
   pub order : List One
   pub fails : Admitted → Asked → One → Type 0
 
-abbrev pub ruled : {Asked One : Type 0} → (One → Rule) → List One → (Admitted → Asked → One → Type 0) → OwnRules Asked
-ruled group order fails = record { One = _; group = group; order = order; fails = fails }
+abbrev pub ordered_rules : {Asked One : Type 0} → (One → Rule) → List One → (Admitted → Asked → One → Type 0) → OwnRules Asked
+ordered_rules group order fails = record { One = _; group = group; order = order; fails = fails }
 
 -- How a form is judged: its instruction byte, the P1 and P2 that it takes, what the data field asks for with these, the rules on the
 -- card and the acting domain, which come first, those of its own, and its delegation.
@@ -60,7 +60,7 @@ content_form instruction takes asks = record {
   Asked = _;
   asks = asks;
   first_rules = M1 ∷ M2 ∷ [];
-  own = ruled M [] (λ admitted asked rule. ⊥);
+  own = ordered_rules M [] (λ admitted asked rule. ⊥);
   delegation = to_nobody;
 }
 

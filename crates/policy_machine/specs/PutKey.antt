@@ -19,7 +19,7 @@ use Rattle.policy_machine.specs.declared.put_key.RulePK.{RulePK}
 use Rattle.policy_machine.specs.declared.put_key.RulePK.TheVariants.{PK1, PK2, PK3, PK4}
 use Rattle.policy_machine.specs.declared.rule.Rule.{Rule}
 use Rattle.policy_machine.specs.declared.rule.Rule.TheVariants.{PK}
-use Rattle.policy_machine.specs.ManagedForm.{ManagedForm, command_form, content_form, ruled}
+use Rattle.policy_machine.specs.ManagedForm.{ManagedForm, command_form, content_form, ordered_rules}
 
 -- P1 is the key version number that is replaced, or 00 for none; P2 is the first key identifier, 01, with the high bit where
 -- several keys come
@@ -153,7 +153,7 @@ pub record AreKeysPut (admitted : Admitted) (asked : KeysAsked) (changed : Regis
 -- the reply is the new key version number and the check values
 abbrev pub managed_put_key : ManagedForm
 managed_put_key = record {
-  judged = record (content_form 0xD8 PutKeyParameters AsksToPut) { own = ruled PK (PK1 ∷ PK2 ∷ PK3 ∷ PK4 ∷ []) PuttingKeyFails };
+  judged = record (content_form 0xD8 PutKeyParameters AsksToPut) { own = ordered_rules PK (PK1 ∷ PK2 ∷ PK3 ∷ PK4 ∷ []) PuttingKeyFails };
   becomes = AreKeysPut;
   reply = λ asked. asked.version ∷ concat (map (λ one. one.check) asked.sent);
 }

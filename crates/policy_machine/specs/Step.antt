@@ -1,7 +1,7 @@
 -- One step of the policy machine.
 use Rattle.std.specs.Prelude.{◌≡◌, ◌⊎◌, ℕ, List, [], ◌++◌, Bool, true, false, Option, None, Some, if◌then◌else◌}
 use Rattle.apdu_core.specs.Reply.{status_bytes}
-use Rattle.scp03_card.specs.Protected.{protected}
+use Rattle.scp03_card.specs.Protected.{session_reply}
 use Rattle.scp03_card.specs.Session.{Session}
 use Rattle.policy_machine.specs.Admission.{Admits, Admitted, GeneralRefusalLeaves, GeneralFails, general_rules}
 use Rattle.policy_machine.specs.Commands.{HasEffect, Judges}
@@ -21,15 +21,15 @@ pub record Outcome : Type 0 where
   pub rule : Option Rule
 
 -- a reply in plain, or protected by a session
-abbrev pub sent : Option Session → List ℕ → ℕ → List ℕ
-sent None body status = body ++ status_bytes status
-sent (Some session) body status = protected session body status
+abbrev pub reply_bytes : Option Session → List ℕ → ℕ → List ℕ
+reply_bytes None body status = body ++ status_bytes status
+reply_bytes (Some session) body status = session_reply session body status
 
 -- A refusal leaves the registry, and its reply is the rule's status word alone.
-abbrev pub refused : State → Volatile → Option Session → Rule → Outcome
-refused state left session found = record {
+abbrev pub outcome_of_refusal : State → Volatile → Option Session → Rule → Outcome
+outcome_of_refusal state left session found = record {
   state = record { registry = state.registry; volatile = left };
-  reply = sent session [] (status_of found);
+  reply = reply_bytes session [] (status_of found);
   rule = Some found;
 }
 
@@ -46,8 +46,8 @@ refusal_leaves admitted rule =
     let left = with_offer_dropped admitted.at.volatile admitted.channel in
     if keeps_load rule then left else without_load left admitted.channel
 
-abbrev pub accepted : Admitted → Effect → Outcome
-accepted admitted done = record { state = done.state; reply = sent admitted.session done.body done.status; rule = None }
+abbrev pub outcome_of_effect : Admitted → Effect → Outcome
+outcome_of_effect admitted done = record { state = done.state; reply = reply_bytes admitted.session done.body done.status; rule = None }
 
 -- a general rule bars the bytes
 pub record IsRejected (state : State) (bytes : List ℕ) (outcome : Outcome) : Type 0 where
@@ -55,7 +55,7 @@ pub record IsRejected (state : State) (bytes : List ℕ) (outcome : Outcome) : T
   pub left : Volatile
   pub first : IsFirst (GeneralFails state bytes) general_rules (Some rule)
   pub leaves : GeneralRefusalLeaves state bytes rule left
-  pub outcome_is : outcome ≡ refused state left None (G rule)
+  pub outcome_is : outcome ≡ outcome_of_refusal state left None (G rule)
 
 -- the bytes are a command that passes, and a rule of its own refuses it
 pub record IsRefused (state : State) (bytes : List ℕ) (outcome : Outcome) : Type 0 where
@@ -63,7 +63,7 @@ pub record IsRefused (state : State) (bytes : List ℕ) (outcome : Outcome) : Ty
   pub rule : Rule
   pub admits : Admits state bytes admitted
   pub judges : Judges admitted (Some rule)
-  pub outcome_is : outcome ≡ refused state (refusal_leaves admitted rule) admitted.session rule
+  pub outcome_is : outcome ≡ outcome_of_refusal state (refusal_leaves admitted rule) admitted.session rule
 
 -- no rule refuses it: it does what it does
 pub record IsAccepted (state : State) (bytes : List ℕ) (outcome : Outcome) : Type 0 where
@@ -72,7 +72,7 @@ pub record IsAccepted (state : State) (bytes : List ℕ) (outcome : Outcome) : T
   pub admits : Admits state bytes admitted
   pub judges : Judges admitted None
   pub does : HasEffect admitted done
-  pub outcome_is : outcome ≡ accepted admitted done
+  pub outcome_is : outcome ≡ outcome_of_effect admitted done
 
 -- The card makes this outcome of these bytes.
 abbrev pub Step : State → List ℕ → Outcome → Type 0

@@ -13,7 +13,7 @@ use Rattle.policy_machine.specs.Refusal.{Refusal, refusal}
 use Rattle.policy_machine.specs.declared.rule.Rule.TheVariants.{SD}
 use Rattle.policy_machine.specs.declared.store_data.RuleSD.{RuleSD}
 use Rattle.policy_machine.specs.declared.store_data.RuleSD.TheVariants.{SD1}
-use Rattle.policy_machine.specs.ManagedForm.{ManagedForm, content_form, ruled}
+use Rattle.policy_machine.specs.ManagedForm.{ManagedForm, content_form, ordered_rules}
 
 -- P1 says whether more blocks come, and that the data are BER-TLV or of no said form; P2 is any block number
 abbrev pub StoreDataParameters : ℕ → Type 0
@@ -47,7 +47,7 @@ pub record AreObjectsPut (admitted : Admitted) (elements : List Element) (change
 
 abbrev pub managed_store_data : ManagedForm
 managed_store_data = record {
-  judged = record (content_form 0xE2 (λ p1 p2. StoreDataParameters p1) (λ p1 p2. HasObjects)) { own = ruled SD (SD1 ∷ []) StoringFails };
+  judged = record (content_form 0xE2 (λ p1 p2. StoreDataParameters p1) (λ p1 p2. HasObjects)) { own = ordered_rules SD (SD1 ∷ []) StoringFails };
   becomes = AreObjectsPut;
   reply = λ elements. [];
 }

@@ -19,15 +19,15 @@ IsMember registry (AKey key) = Contains registry.keys key
 IsMember registry (AnObject object) = Contains registry.objects object
 
 -- the AID by which it counts: an entry's own, that of a file's domain, and that of the owner of a key or data object
-abbrev pub place_of : Member → List ℕ
-place_of (AnEntry entry) = entry.aid
-place_of (AFile file) = file.domain
-place_of (AKey key) = key.owner
-place_of (AnObject object) = object.owner
+abbrev pub member_place : Member → List ℕ
+member_place (AnEntry entry) = entry.aid
+member_place (AFile file) = file.domain
+member_place (AKey key) = key.owner
+member_place (AnObject object) = object.owner
 
 -- it is in the tree of the domain
 abbrev pub InTreeOf : Registry → List ℕ → Member → Type 0
-InTreeOf registry domain member = IsMember registry member × IsAtOrAbove registry domain (place_of member)
+InTreeOf registry domain member = IsMember registry member × IsAtOrAbove registry domain (member_place member)
 
 -- The tree of a domain has each entry at or below it, each Executable Load File in one of these, and what each of these owns.
 pub record IsWholeTree (registry : Registry) (domain : List ℕ) : Type 0 where

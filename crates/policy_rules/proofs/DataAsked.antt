@@ -1,7 +1,7 @@
 -- Where something was found for a tag, there is such data.
 use Rattle.std.proofs.Common.{◌≡◌, ◌≢◌, ℕ, List, [], ◌∷◌, ◌++◌, None, Some, refl, sym, subst, ◌∙◌, inl, inr, length, arith}
 use Rattle.std.specs.Prelude.{map}
-use Rattle.policy_rules.specs.Prelude.{Admitted, AreElements, AsksFor, HasData, IsFor, Represents, Spelling, Well, domain_aid, held, key_information, key_of, selected_on, tag_of}
+use Rattle.policy_rules.specs.Prelude.{Admitted, AreElements, AsksFor, HasData, IsFor, Represents, Spelling, Well, domain_aid, key_information, key_of, selected_on, tag_of, thing_in}
 use Rattle.card_types.specs.Registry as registry
 use Rattle.card_types.specs.declared.tables.Entry.{Entry}
 use Rattle.card_types.specs.declared.tables.Tables.{Tables}
@@ -32,7 +32,7 @@ cons_not_nil : (x : registry.Key) (xs : List registry.Key) → x ∷ xs ≢ []
 cons_not_nil x xs same = cc
 
 module _ (page : ℕ → List ℕ) (tables : Tables) (said : registry.Registry) (says : Represents page tables said) (well : Well said)
-    (domain : ℕ) (entry : Entry) (at : held tables.entries.items domain ≡ Some entry) where
+    (domain : ℕ) (entry : Entry) (at : thing_in tables.entries.items domain ≡ Some entry) where
   abbrev aid : List ℕ
   aid = domain_aid tables.entries.items domain
 

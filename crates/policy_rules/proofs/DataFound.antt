@@ -3,7 +3,7 @@ use Rattle.std.proofs.Common.{◌≡◌, ◌≢◌, ℕ, ◌<◌, Bool, true, fa
 use Rattle.std.specs.Prelude.{◌==◌}
 use Rattle.std.proofs.lemmas.Bool.Decides.{eqb_tells}
 use Rattle.std.proofs.lemmas.List.Elements.{All-contains}
-use Rattle.policy_rules.specs.Prelude.{HasData, IsDataObject, IsObject, IsSequenceCounter, IsTag, IsWellCounter, IsWellObject, NoneFits, Represents, UsesCounter, Well, counter_bytes, counter_of, domain_aid, follows, held, object_of, same_aid}
+use Rattle.policy_rules.specs.Prelude.{HasData, IsDataObject, IsObject, IsSequenceCounter, IsTag, IsWellCounter, IsWellObject, NoneFits, Represents, UsesCounter, Well, counter_bytes, counter_of, domain_aid, follows, object_of, same_aid, thing_in}
 use Rattle.card_types.proofs.LeastOfList.{found_fits}
 use Rattle.card_types.proofs.ObjectNames.{object_in_slot, object_unnamed, objects_shown}
 use Rattle.card_types.specs.Registry as registry
@@ -39,19 +39,19 @@ both true b is = (refl, is)
 both false b is = cc
 
 module _ (page : ℕ → List ℕ) (tables : Tables) (said : registry.Registry) (says : Represents page tables said) (well : Well said) where
-  pub object_form : (slot : ℕ) (object : Object) → held tables.objects.items slot ≡ Some object → IsTag object.tag
+  pub object_form : (slot : ℕ) (object : Object) → thing_in tables.objects.items slot ≡ Some object → IsTag object.tag
   object_form slot object here =
       let there = (objects_shown page tables said says).there slot object here refl in
       tag_of_object object.tag (length object.value.items)
       (All-contains (IsWellObject said) said.objects (object_of tables.entries.items object) well.objects there).form
 
-  pub object_tag : (domain tag slot : ℕ) (object : Object) → held tables.objects.items slot ≡ Some object
+  pub object_tag : (domain tag slot : ℕ) (object : Object) → thing_in tables.objects.items slot ≡ Some object
       → (object.owner == domain && object.tag == tag) ≡ true → IsTag tag
   object_tag domain tag slot object here fits =
       subst IsTag (equal_is object.tag tag (both (object.owner == domain) (object.tag == tag) fits).1) (object_form slot object here)
 
 module _ (page : ℕ → List ℕ) (tables : Tables) (said : registry.Registry) (says : Represents page tables said) (well : Well said)
-    (domain : ℕ) (entry : Entry) (at : held tables.entries.items domain ≡ Some entry) where
+    (domain : ℕ) (entry : Entry) (at : thing_in tables.entries.items domain ≡ Some entry) where
   abbrev aid : List ℕ
   aid = domain_aid tables.entries.items domain
 
@@ -86,7 +86,7 @@ module _ (page : ℕ → List ℕ) (tables : Tables) (said : registry.Registry) 
       let bound = (All-contains (IsWellCounter said) said.counters (counter_of tables.entries.items key) well.counters found.0).number in
       (omega arith, (counter_of tables.entries.items key, uses, refl))
 
-  pub object_data : (tag slot : ℕ) (object : Object) → held tables.objects.items slot ≡ Some object
+  pub object_data : (tag slot : ℕ) (object : Object) → thing_in tables.objects.items slot ≡ Some object
       → (object.owner == domain && object.tag == tag) ≡ true → (object.tag ≡ tag) × IsTag tag × IsDataObject said aid tag object.value.items
   object_data tag slot object here fits =
       let parts = both (object.owner == domain) (object.tag == tag) fits in

@@ -7,7 +7,7 @@ use Rattle.card_types.proofs.Domains.{domain_is_used, same_domain, step_from_use
 use Rattle.card_types.proofs.KeyNames.{counters_shown}
 use Rattle.card_types.proofs.LeastOfList.{none_fits, none_found}
 use Rattle.card_types.proofs.Members.{contains_filter, filtered}
-use Rattle.policy_rules.specs.Prelude.{ActsIn, Admitted, Counter, IsLastSet, IsRoot, acting, counter_of, counters_but, domain_aid, domain_slot, held, holds_counter_but, is_counter_numbered, keeps_counter, keeps_counter_of, same_aid}
+use Rattle.policy_rules.specs.Prelude.{ActsIn, Admitted, Counter, IsLastSet, IsRoot, acting, counter_of, counters_but, domain_aid, domain_slot, holds_counter_but, is_counter_numbered, keeps_counter, keeps_counter_of, same_aid, thing_in}
 use Rattle.card_types.specs.declared.tables.KeyRec.{KeyRec}
 use Rattle.card_types.specs.declared.tables.Tables.{Tables}
 use Rattle.policy_slots.proofs.AnySlot.{passing_slot, slot_passes}
@@ -37,7 +37,7 @@ module _ (page : ℕ → List ℕ) (tables : Tables) (domain : ℕ) (admitted : 
       steps ∙ ap Some (same_domain page tables admitted.at.registry acts.says acts.entry.domain domain above.0 acts.entry above.1 acts.at alike)
 
   module _ (owner : List ℕ) (named : domain_aid tables.entries.items domain ≡ owner) where
-    own : (slot : ℕ) (key : KeyRec) → held tables.keys.items slot ≡ Some key
+    own : (slot : ℕ) (key : KeyRec) → thing_in tables.keys.items slot ≡ Some key
         → (key.owner == domain) ≡ same_aid (domain_aid tables.entries.items key.owner) owner
     own slot key here =
         subst (λ (aid : List ℕ). (key.owner == domain) ≡ same_aid (domain_aid tables.entries.items key.owner) aid) named

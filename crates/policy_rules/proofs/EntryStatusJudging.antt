@@ -4,7 +4,7 @@ use Rattle.std.specs.Prelude.{IfNone, IfSome, MatchOption}
 use Rattle.std.specs.Option.{option_map}
 use Rattle.std.proofs.lemmas.Bool.{eq-eqb, eqb-true}
 use Rattle.card_types.proofs.SameAid.{same_aid_decides}
-use Rattle.policy_rules.specs.Prelude.{ActsIn, Admitted, FailsFirst, IsAid, IsChangeFor, IsDomainNamed, IsEntryStatusOf, IsEntryStep, IsSlotStep, ManagementFails, Marks, MaySet, OwnFirst, SettingStatusFails, TellsCard, aid_of, command_form, entry_named, entry_of, held, is_domain, managed_entry_status, same_aid}
+use Rattle.policy_rules.specs.Prelude.{ActsIn, Admitted, FailsFirst, IsAid, IsChangeFor, IsDomainNamed, IsEntryStatusOf, IsEntryStep, IsSlotStep, ManagementFails, Marks, MaySet, OwnFirst, SettingStatusFails, TellsCard, aid_of, command_form, entry_named, entry_of, is_domain, managed_entry_status, same_aid, thing_in}
 use Rattle.card_types.specs.Registry as registry
 use Rattle.card_types.specs.declared.factory.TheConstants.{ISSUER}
 use Rattle.card_types.specs.declared.found.Found.TheVariants as found
@@ -96,7 +96,7 @@ module _ (page : ℕ → List ℕ) (tables : Tables) (domain : ℕ) (admitted : 
     all_known is_domain (inl none) = (let some = there.named in cc)
     all_known is_domain (inr all) = all.1 (subst (IsDomainNamed admitted.at.registry) is.aid is_domain)
 
-    module _ (entry : Entry) (at : held tables.entries.items slot ≡ Some entry) where
+    module _ (entry : Entry) (at : thing_in tables.entries.items slot ≡ Some entry) where
       abbrev by_name : registry.Entry
       by_name = entry_of tables.entries.items tables.files.items entry
 

@@ -11,7 +11,7 @@ use Rattle.std.proofs.lemmas.Cmp.{nat_list_cmp_total}
 use Rattle.card_types.proofs.Next.{held_from_name}
 use Rattle.card_types.proofs.NotAbove.{not_above_self, not_above_third, not_below}
 use Rattle.card_types.proofs.Shows.{Shows, shows_used}
-use Rattle.policy_rules.specs.Prelude.{AFile, ActsIn, Admitted, AnEntry, HasLayout, IsAbove, IsIn, IsListed, IsListedAs, IsListedAt, IsListedBy, IsNextListed, IsThingAt, NoneListed, NotAbove, Represents, Sees, Thing, acting, aid_in, aid_of, aid_order, entry_of, file_of, found_in, held, lower_of}
+use Rattle.policy_rules.specs.Prelude.{AFile, ActsIn, Admitted, AnEntry, HasLayout, IsAbove, IsIn, IsListed, IsListedAs, IsListedAt, IsListedBy, IsNextListed, IsThingAt, NoneListed, NotAbove, Represents, Sees, Thing, acting, aid_in, aid_of, aid_order, entry_of, file_of, found_in, lower_of, thing_in}
 use Rattle.card_types.specs.Registry as registry
 use Rattle.card_types.specs.declared.factory.TheConstants.{ISSUER}
 use Rattle.card_types.specs.declared.found.Found.{Found}
@@ -22,7 +22,7 @@ use Rattle.card_types.specs.declared.tables.LoadFile.{LoadFile}
 use Rattle.card_types.specs.declared.tables.Tables.{Tables}
 
 -- what a slot holds is in one of the slots
-held_within : {T : Type 0} (slots : List (Option T)) (slot : ℕ) (thing : T) → held slots slot ≡ Some thing → slot < length slots
+held_within : {T : Type 0} (slots : List (Option T)) (slot : ℕ) (thing : T) → thing_in slots slot ≡ Some thing → slot < length slots
 held_within [] slot thing at = cc
 held_within (s ∷ slots) zero thing at = omega arith
 held_within (s ∷ slots) (suc slot) thing at = (let later = held_within slots slot thing at in omega (arith, later))

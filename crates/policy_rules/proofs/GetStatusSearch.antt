@@ -2,7 +2,7 @@
 use Rattle.std.proofs.Common.{◌≡◌, ◌⊎◌, inl, inr, ℕ, ◌<◌, ◌≤◌, List, [], ◌∷◌, ◌++◌, length, Option, None, Some, ap, subst, arith}
 use Rattle.std.proofs.lemmas.List.{nil_from_length}
 use Rattle.policy_rules.specs.Prelude.{AreElements, BeginsWith, Element, IsSearch, Spelling, tag_list}
-use Rattle.policy_machine.proofs.StoreDataElements.{elements_behind}
+use Rattle.policy_machine.proofs.StoreDataElements.{elements_after}
 
 abbrev spelled_as : ℕ → List ℕ → Element
 spelled_as tag value = record { tag = tag; value = value }
@@ -15,7 +15,7 @@ module _ (body : List ℕ) where
   module _ (tag : ℕ) (value rest : List ℕ) (begins : BeginsWith tag value rest body) where
     first_part : (partial : List ℕ) (search : IsSearch body partial) → (tag ≡ 0x4F) × (value ≡ partial) × AreElements (tag_list search.tags) rest
     first_part partial search =
-        let behind = elements_behind (record { tag = 0x4F; value = partial } ∷ tag_list search.tags) tag value rest body search.spelled begins in
+        let behind = elements_after (record { tag = 0x4F; value = partial } ∷ tag_list search.tags) tag value rest body search.spelled begins in
         let is = behind.1 in
         let first : spelled_as tag value ≡ spelled_as 0x4F partial = cc in
         let others : behind.0 ≡ tag_list search.tags = cc in
@@ -45,7 +45,7 @@ module _ (body : List ℕ) where
           → IsSearch body partial → ⊥
       other_rest next more end follows other partial search =
           let second = second_part search.tags (first_part partial search).2 in
-          let behind = elements_behind (record { tag = 0x5C; value = second.0 } ∷ []) next more end rest second.1 follows in
+          let behind = elements_after (record { tag = 0x5C; value = second.0 } ∷ []) next more end rest second.1 follows in
           let is = behind.1 in
           let first : spelled_as next more ≡ spelled_as 0x5C second.0 = cc in
           let none : behind.0 ≡ [] = cc in

@@ -6,7 +6,7 @@ use Rattle.card_types.proofs.Domains.{domain_aid_is}
 use Rattle.card_types.proofs.EntryNames.{entry_in_slot}
 use Rattle.card_types.proofs.KeyNames.{counters_shown}
 use Rattle.card_types.proofs.SameAid.{same_aid_decides}
-use Rattle.policy_rules.specs.Prelude.{Admitted, AsksForSet, HasNextCounter, InitializeUpdateFails, IsFirst, IsInOrder, IsWellCounter, Represents, UsesSet, Well, acting, counter_of, domain_aid, entry_of, held, is_card_locked, keeps_counter, offer_rules, same_aid, set_counter}
+use Rattle.policy_rules.specs.Prelude.{Admitted, AsksForSet, HasNextCounter, InitializeUpdateFails, IsFirst, IsInOrder, IsWellCounter, Represents, UsesSet, Well, acting, counter_of, domain_aid, entry_of, is_card_locked, keeps_counter, offer_rules, same_aid, set_counter, thing_in}
 use Rattle.card_types.specs.Registry as registry
 use Rattle.card_types.specs.declared.factory.TheConstants.{ISSUER}
 use Rattle.card_types.specs.declared.limits.TheConstants.{COUNTER_LIMIT}
@@ -31,7 +31,7 @@ some_is : {A : Type 0} (a b : A) → Some a ≡ Some b → a ≡ b
 some_is a b same = cc
 
 -- a counter that a slot holds is within its limit
-pub has_next : (tables : Tables) (order : IsInOrder tables) (slot : ℕ) (key : KeyRec) → held tables.keys.items slot ≡ Some key
+pub has_next : (tables : Tables) (order : IsInOrder tables) (slot : ℕ) (key : KeyRec) → thing_in tables.keys.items slot ≡ Some key
     → keeps_counter key ≡ true → key.counter ≢ COUNTER_LIMIT → HasNextCounter tables.keys.items slot
 has_next tables order slot key here keeps other =
     let among = (counters_shown order.page tables order.said order.says).there slot key here keeps in
@@ -39,7 +39,7 @@ has_next tables order slot key here keeps other =
     rw here (keeps, omega (arith, bound, other))
 
 module _ (page : ℕ → List ℕ) (tables : Tables) (admitted : Admitted) (says : Represents page tables admitted.at.registry) (well : Well admitted.at.registry)
-    (domain : ℕ) (entry : Entry) (at : held tables.entries.items domain ≡ Some entry) (on : acting admitted ≡ domain_aid tables.entries.items domain)
+    (domain : ℕ) (entry : Entry) (at : thing_in tables.entries.items domain ≡ Some entry) (on : acting admitted ≡ domain_aid tables.entries.items domain)
     (version : ℕ) (asked : version ≡ admitted.command.p1) where
   named : registry.entry_named admitted.at.registry (acting admitted) ≡ Some (entry_of tables.entries.items tables.files.items entry)
   named =

@@ -17,7 +17,7 @@ use Rattle.policy_rules.specs.declared.put_key.PutKeys.{PutKeys}
 use Rattle.policy_rules.specs.declared.request.Request.TheVariants.{PutKey}
 use Rattle.policy_slots.proofs.KeyCounts as by_slots
 use Rattle.policy_slots.proofs.KeysByName.{has_version_by_name}
-use Rattle.policy_slots.proofs.ManagementFirst.{behind_management}
+use Rattle.policy_slots.proofs.ManagementFirst.{after_management}
 
 module _ (page : ℕ → List ℕ) (tables : Tables) (domain : ℕ) (admitted : Admitted) (acts : ActsIn page tables domain admitted)
     (replaced version : ℕ) (keys : PutKeys) (request : IsRequestOf (PutKey replaced version keys) admitted.command) where
@@ -99,7 +99,7 @@ module _ (page : ℕ → List ℕ) (tables : Tables) (domain : ℕ) (admitted : 
 
   module _ (m1 : ManagementFails admitted M1 → ⊥) (m2 : ManagementFails admitted M2 → ⊥) where
     behind : (found : Option Rule) → IsFirst ((command_form managed_put_key).fails admitted) (PK PK1 ∷ PK PK2 ∷ []) found → IsFirst ((command_form managed_put_key).fails admitted) version_rules found
-    behind found rest = behind_management ((command_form managed_put_key).fails admitted) (PK PK1 ∷ PK PK2 ∷ []) found m1 m2 rest
+    behind found rest = after_management ((command_form managed_put_key).fails admitted) (PK PK1 ∷ PK PK2 ∷ []) found m1 m2 rest
 
     pub unknown_first : Fails Unknown → IsFirst ((command_form managed_put_key).fails admitted) version_rules (Some (PK PK1))
     unknown_first fails = behind (Some (PK PK1)) (inl (unknown_fails fails, refl))

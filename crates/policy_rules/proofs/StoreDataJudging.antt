@@ -2,7 +2,7 @@
 use Rattle.std.proofs.Common.{inl, inr, ℕ, ◌≤◌, ◌<◌, List, length, sym, subst, arith, ◌≡◌, ap, ◌∙◌, ◌+◌, None, Some, refl, Option}
 use Rattle.std.specs.Prelude.{map}
 use Rattle.std.proofs.lemmas.List.Sorted.{length_permutation, IsPermutation-refl}
-use Rattle.policy_rules.specs.Prelude.{ActsIn, Admitted, AreElements, Element, FailsFirst, HasObjects, IsFirst, Judges, ManagementFails, StoreDataField, StoringFails, TakesCommand, acting, command_form, has_object_in, is_object_of, managed_store_data, new_tags, object_of, objects_stored, used}
+use Rattle.policy_rules.specs.Prelude.{ActsIn, Admitted, AreElements, Element, FailsFirst, HasObjects, IsFirst, Judges, ManagementFails, StoreDataField, StoringFails, TakesCommand, acting, command_form, has_object_in, is_object_of, managed_store_data, new_tags, object_of, objects_stored, things_in}
 use Rattle.card_types.specs.declared.limits.TheConstants.{OBJECTS}
 use Rattle.policy_machine.specs.declared.rule.Rule.TheVariants.{SD}
 use Rattle.policy_machine.specs.declared.store_data.RuleSD.TheVariants.{SD1}
@@ -19,18 +19,18 @@ use Rattle.policy_machine.proofs.StoreDataLaws.{store_judgeable}
 
 module _ (page : ℕ → List ℕ) (tables : Tables) (domain : ℕ) (admitted : Admitted) (acts : ActsIn page tables domain admitted) where
   -- the objects that there would be are counted by slots
-  pub counted : (elements : List Element) → length (used tables.objects.items) + new_tags (has_object_in tables.objects.items domain) elements ≡ length (objects_stored admitted elements)
+  pub counted : (elements : List Element) → length (things_in tables.objects.items) + new_tags (has_object_in tables.objects.items domain) elements ≡ length (objects_stored admitted elements)
   counted elements =
       let said = admitted.at.registry in
       let view = object_of tables.entries.items in
-      let number = length_permutation (map view (used tables.objects.items)) said.objects acts.says.objects in
+      let number = length_permutation (map view (things_in tables.objects.items)) said.objects acts.says.objects in
       let all = stored_count (acting admitted) (has_object_in tables.objects.items domain) said.objects said.objects elements
       (record { ascending = acts.says.ascending.objects; same = IsPermutation-refl said.objects })
       (λ tag. ap (λ (aid : List ℕ). list_any (is_object_of aid tag) said.objects) acts.on ∙ has_alike page tables said acts.says acts.well domain acts.entry acts.at tag) in
-      omega (arith, number, length-map (used tables.objects.items) view, all)
+      omega (arith, number, length-map (things_in tables.objects.items) view, all)
 
   module _ (objects : List ℕ) (same : objects ≡ admitted.command.body) (field : StoreDataField admitted.command.body) (number new : ℕ)
-      (number_is : number ≡ length (used tables.objects.items))
+      (number_is : number ≡ length (things_in tables.objects.items))
       (new_is : (elements : List Element) → AreElements elements objects → new ≡ new_tags (has_object_in tables.objects.items domain) elements) where
     are_so_many : (elements : List Element) → HasObjects admitted.command.body elements → number + new ≡ length (objects_stored admitted elements)
     are_so_many elements has =

@@ -4,7 +4,7 @@ use Rattle.std.specs.Option.{option_map}
 use Rattle.std.specs.Ordering.{is_lt}
 use Rattle.apdu_core.specs.Apdu.{Apdu}
 use Rattle.card_types.specs.Aid.{NotAbove, aid_order}
-use Rattle.card_types.specs.Represents.{entry_of, file_of, held}
+use Rattle.card_types.specs.Represents.{entry_of, file_of, thing_in}
 use Rattle.card_types.specs.declared.factory.TheConstants.{ISSUER}
 use Rattle.card_types.specs.declared.found.Found.{Found}
 use Rattle.card_types.specs.declared.found.Found.TheVariants as found
@@ -37,9 +37,9 @@ IsPlaceBefore place admitted = option_map place_of place ≡ place_before admitt
 -- the slot holds the thing
 abbrev pub IsThingAt : (ℕ → List ℕ) → Tables → Found → Thing → Type 0
 IsThingAt page tables (found.Entry slot) thing =
-    (entry : Entry) × (held tables.entries.items slot ≡ Some entry) × (thing ≡ AnEntry (entry_of tables.entries.items tables.files.items entry))
+    (entry : Entry) × (thing_in tables.entries.items slot ≡ Some entry) × (thing ≡ AnEntry (entry_of tables.entries.items tables.files.items entry))
 IsThingAt page tables (found.File slot) thing =
-    (file : LoadFile) × (held tables.files.items slot ≡ Some file) × (thing ≡ AFile (file_of page tables.entries.items file))
+    (file : LoadFile) × (thing_in tables.files.items slot ≡ Some file) × (thing ≡ AFile (file_of page tables.entries.items file))
 
 -- of the things that are listed for a domain, the one with the least AID, in its slot
 pub record IsNextListed (page : ℕ → List ℕ) (tables : Tables) (admitted : Admitted) (p1 : ℕ) (partial : List ℕ) (after : Option (List ℕ)) (found : Found)

@@ -10,7 +10,7 @@ pub use Rattle.card_types.specs.Hierarchy.{IsLine, IsPath}
 pub use Rattle.card_types.specs.KeySets.{AreKeysOf, HaveKeyLength}
 pub use Rattle.card_types.specs.Privileges.{has, security_domain}
 pub use Rattle.card_types.specs.Registry.{Counter, Entry, IsAscending, Registry, domain_of, entry_named, is_domain}
-pub use Rattle.card_types.specs.Represents.{HasLayout, IsInOrder, Represents, counter_of, domain_aid, domain_slot, entry_of, file_of, held, keeps_counter, key_of, object_of, used}
+pub use Rattle.card_types.specs.Represents.{HasLayout, IsInOrder, Represents, counter_of, domain_aid, domain_slot, entry_of, file_of, keeps_counter, key_of, object_of, thing_in, things_in}
 pub use Rattle.card_types.specs.Search.{NoneFits}
 pub use Rattle.card_types.specs.Well.{IsDomainNamed, IsKeyLength, IsObject, IsRoot, IsWellCounter, IsWellEntry, IsWellFile, IsWellObject, LeadsToRoot, Well}
 pub use Rattle.content_rules.specs.LoadFound.{IsForLoad}
@@ -37,7 +37,7 @@ pub use Rattle.policy_machine.specs.KeyFields.{AreFields, BeginsWithKey, NoField
 pub use Rattle.policy_machine.specs.KeySets.{UsesCounter, UsesSet, counters_but, has_key_version, is_counter_numbered, keys_but, set_counter}
 pub use Rattle.policy_machine.specs.Load.{LoadFails, front_rules}
 pub use Rattle.policy_machine.specs.MakeSelectable.{managed_selectable}
-pub use Rattle.policy_machine.specs.Malformed.{IsMalformed, IsRefusedBy}
+pub use Rattle.policy_machine.specs.Malformed.{FormRefuses, IsMalformed}
 pub use Rattle.policy_machine.specs.ManageChannel.{is_closed, lowest_closed}
 pub use Rattle.policy_machine.specs.ManagedForm.{JudgedFirst, OwnFirst, command_form}
 pub use Rattle.policy_machine.specs.Management.{ManagementFails, acting}
@@ -50,7 +50,7 @@ pub use Rattle.policy_machine.specs.State.{Channel, Place, State, channel_at, pl
 pub use Rattle.policy_machine.specs.StoreData.{HasObjects, StoreDataField, StoreDataParameters, StoringFails, managed_store_data, objects_stored}
 pub use Rattle.policy_rules.specs.Found.{IsFor}
 pub use Rattle.policy_rules.specs.GetStatusRequests.{IsFirstShown, IsListOf, IsListedAs, IsListedAt, IsNextListed, IsPlaceBefore, IsThingAt, NoneListed, found_in, lower_of}
-pub use Rattle.policy_rules.specs.Requests.{Decodes, IsJudgedBehind, IsMeant, IsRequestOf, Parses, form_in, sent_key, sent_keys}
+pub use Rattle.policy_rules.specs.Requests.{Decodes, IsJudgedAfter, IsMeant, IsRequestOf, Parses, form_in, sent_key, sent_keys}
 pub use Rattle.policy_rules.specs.SetStatusRequests.{IsCardStatusOf, IsChangeFor, IsEntryStatusOf, IsEntryStatusRequest, IsOther, IsSlotStep, IsStepBy, MaySet, MayStep, slot_of}
 pub use Rattle.policy_slots.specs.KeyOrder.{UsesSetOfKey, follows, holds_counter_but, keeps_counter_of}
 pub use Rattle.policy_slots.specs.ObjectsHeld.{has_object_in, is_tagged_in}

@@ -109,5 +109,5 @@ IsMeant request = (p1 p2 : ℕ) × (body : List ℕ) × Decodes request p1 p2 bo
 
 -- the command is judged whole by what the card has once it has passed: all but EXTERNAL AUTHENTICATE, which needs the keys of the offer,
 -- GET STATUS, which goes on at the place that the channel had before, and LOAD, whose block is judged where its bytes are kept
-abbrev pub IsJudgedBehind : ℕ → Type 0
-IsJudgedBehind ins = (ins ≢ EXTERNAL_AUTHENTICATE) × (ins ≢ GET_STATUS) × (ins ≢ LOAD)
+abbrev pub IsJudgedAfter : ℕ → Type 0
+IsJudgedAfter ins = (ins ≢ EXTERNAL_AUTHENTICATE) × (ins ≢ GET_STATUS) × (ins ≢ LOAD)

@@ -4,7 +4,7 @@ use Rattle.apdu_core.specs.Apdu.{Apdu}
 use Rattle.card_types.specs.Aid.{IsAid}
 use Rattle.card_types.specs.Privileges.{has, security_domain}
 use Rattle.card_types.specs.Registry.{entry_named}
-use Rattle.card_types.specs.Represents.{held}
+use Rattle.card_types.specs.Represents.{thing_in}
 use Rattle.card_types.specs.declared.card_life.CardLife.{CardLife}
 use Rattle.card_types.specs.declared.factory.TheConstants.{ISSUER}
 use Rattle.card_types.specs.declared.life.Life.TheVariants.{Selectable}
@@ -71,7 +71,7 @@ slot_of (Tree domain locked) = domain
 
 -- one entry comes to another life cycle state or lock mark than it has
 abbrev pub IsOther : List (Option Entry) → StatusChange → Type 0
-IsOther entries (One entry life) = MatchOption (held entries entry) ⊥ (λ slot. slot.life ≢ life)
+IsOther entries (One entry life) = MatchOption (thing_in entries entry) ⊥ (λ slot. slot.life ≢ life)
 IsOther entries (Tree domain locked) = Unit {0}
 
 -- what was found is the step that the command asks for, or the lock mark of all

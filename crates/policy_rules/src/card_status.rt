@@ -1,7 +1,7 @@
 //! SET STATUS of the card (GlobalPlatform Card Specification 2.3.1, 5.1 and 11.10).
 
 ghost use Rattle.std.specs.Prelude.{◌≡◌, ◌↔◌, ℕ, List, None, Some, IfErr, IfNone, IfOk, IfSome, IsTrue, OnOk};
-ghost use Rattle.policy_rules.specs.Prelude.{ActsIn, Admitted, CardStatusParameters, FailsFirst, IsCardStatusOf, IsCardStep, IsRefusedBy, IsStepBy, MayStep, card_life_code, command_form, managed_card_status};
+ghost use Rattle.policy_rules.specs.Prelude.{ActsIn, Admitted, CardStatusParameters, FailsFirst, FormRefuses, IsCardStatusOf, IsCardStep, IsStepBy, MayStep, card_life_code, command_form, managed_card_status};
 
 use card_types::{CardLife, Privileges, Tables};
 use policy_machine::{Rule, RulePS, RuleSC};
@@ -69,7 +69,7 @@ pub fn judge_card_status(tables: &Tables, domain: u8, code: u8) -> Result<CardLi
 pub(crate) fn parse_card_status(p1: u8, p2: u8, body: &[u8]) -> Result<u8, Rule>
     ensures form { IfOk result (λ code. CardStatusParameters p1 p2) }
     ensures means { IfOk result (λ code. code ≡ p2) }
-    ensures refused { IfErr result (IsRefusedBy (command_form managed_card_status) p1 p2 body.now) }
+    ensures refused { IfErr result (FormRefuses (command_form managed_card_status) p1 p2 body.now) }
 {
     if p1 != 0x80 {
         return Err(Rule::PS(RulePS::P));

@@ -2,7 +2,7 @@
 
 ghost use Rattle.std.specs.Prelude.{◌≡◌, ◌↔◌, ℕ, List, None, Some, IfErr, IfNone, IfOk, IfSome, IsTrue, OnOk};
 ghost use Rattle.std.specs.List.{list_any};
-ghost use Rattle.policy_rules.specs.Prelude.{ActsIn, Admitted, AsksToDeleteKey, Chooses, DeleteParameters, IsInOrder, IsLastSet, IsRefusedBy, IsRequestOf, Judges, KeyChosen, NamesPart, command_form, domain_slot, managed_delete_key};
+ghost use Rattle.policy_rules.specs.Prelude.{ActsIn, Admitted, AsksToDeleteKey, Chooses, DeleteParameters, FormRefuses, IsInOrder, IsLastSet, IsRequestOf, Judges, KeyChosen, NamesPart, command_form, domain_slot, managed_delete_key};
 ghost use Rattle.policy_slots.specs.KeyOrder.{holds_counter_but as holds_counter_but_by};
 ghost use Rattle.policy_rules.specs.declared.request.Request.TheVariants.{DeleteKey};
 
@@ -28,7 +28,7 @@ fn read_choice(body: &[u8]) -> Option<(u8, Option<u8>)>
 pub(crate) fn parse_delete_key(p1: u8, p2: u8, body: &[u8]) -> Result<(u8, Option<u8>), Rule>
     ensures form { IfOk result (λ choice. DeleteParameters p1 p2) }
     ensures means { IfOk result (λ choice. Chooses body.now choice.0 choice.1) }
-    ensures refused { IfErr result (IsRefusedBy (command_form managed_delete_key) p1 p2 body.now) }
+    ensures refused { IfErr result (FormRefuses (command_form managed_delete_key) p1 p2 body.now) }
 {
     if p1 != 0x00 || (p2 != 0x00 && p2 != 0x80) {
         return Err(Rule::PS(RulePS::P));

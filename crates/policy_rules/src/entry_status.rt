@@ -1,7 +1,7 @@
 //! SET STATUS of an application or a security domain (GlobalPlatform Card Specification 2.3.1, 5.3 and 11.10).
 
 ghost use Rattle.std.specs.Prelude.{◌≡◌, ◌↔◌, ◌⊎◌, ℕ, List, None, Some, false, IfErr, IfNone, IfOk, IfSome, IsTrue, OnOk};
-ghost use Rattle.policy_rules.specs.Prelude.{ActsIn, Admitted, EntryStatusParameters, FailsFirst, Holds, IsAboveIn, IsChangeFor, IsEntryStatusOf, IsEntryStatusRequest, IsInOrder, IsOther, IsRefusedBy, IsSlotStep, MaySet, OwnFirst, PersonalizesItself, SettingStatusFails, acting, aid_of, command_form, global_lock, has, managed_entry_status, security_domain, slot_of};
+ghost use Rattle.policy_rules.specs.Prelude.{ActsIn, Admitted, EntryStatusParameters, FailsFirst, FormRefuses, Holds, IsAboveIn, IsChangeFor, IsEntryStatusOf, IsEntryStatusRequest, IsInOrder, IsOther, IsSlotStep, MaySet, OwnFirst, PersonalizesItself, SettingStatusFails, acting, aid_of, command_form, global_lock, has, managed_entry_status, security_domain, slot_of};
 ghost use Rattle.card_types.specs.declared.found.Found.TheVariants.{Entry as At};
 ghost use Rattle.policy_machine.specs.declared.entry_status.RuleSS.TheVariants.{SS1};
 
@@ -179,7 +179,7 @@ pub fn judge_entry_status(
 pub(crate) fn parse_entry_status(p1: u8, p2: u8, body: &[u8]) -> Result<EntryStatusRequest, Rule>
     ensures form { IfOk result (λ request. EntryStatusParameters p1 p2) }
     ensures means { IfOk result (λ request. IsEntryStatusRequest request p1 p2 body.now) }
-    ensures refused { IfErr result (IsRefusedBy (command_form managed_entry_status) p1 p2 body.now) }
+    ensures refused { IfErr result (FormRefuses (command_form managed_entry_status) p1 p2 body.now) }
 {
     if p1 != 0x40 && p1 != 0x60 {
         return Err(Rule::PS(RulePS::P));

@@ -3,7 +3,7 @@
 ghost use Rattle.std.specs.Prelude.{◌≡◌, ℕ, ◌&&◌, ◌==◌, List, Some, IfSome, IfNone, IfOk, IfErr};
 ghost use Rattle.std.specs.Ordering.{nat_cmp};
 ghost use Rattle.std.proofs.lemmas.Cmp.{nat_cmp_total, on_total};
-ghost use Rattle.policy_rules.specs.Prelude.{HasData, IsFor, IsInOrder, IsTag, Parses, Registry, Represents, Well, domain_aid, held};
+ghost use Rattle.policy_rules.specs.Prelude.{HasData, IsFor, IsInOrder, IsTag, Parses, Registry, Represents, Well, domain_aid, thing_in};
 ghost use Rattle.card_types.specs.declared.tables.Entry.{Entry};
 ghost use Rattle.policy_machine.specs.declared.instruction.TheConstants.{GET_DATA};
 
@@ -71,9 +71,9 @@ fn find_datum<'a>(tables: &'a Tables, domain: u8, tag: u16) -> Option<Datum<'a>>
     requires in_order { IsInOrder tables.now }
     ensures tagged { IfSome result (λ found. IsTag tag) }
     ensures some { (page : ℕ → List ℕ) (said : Registry) (entry : Entry) → Represents page tables.now said → Well said
-        → held tables.now.entries.items domain ≡ Some entry → IfSome result (IsFor tables.now said domain tag) }
+        → thing_in tables.now.entries.items domain ≡ Some entry → IfSome result (IsFor tables.now said domain tag) }
     ensures none { (page : ℕ → List ℕ) (said : Registry) (entry : Entry) → Represents page tables.now said → Well said
-        → held tables.now.entries.items domain ≡ Some entry
+        → thing_in tables.now.entries.items domain ≡ Some entry
         → IfNone result ((value : List ℕ) → HasData said (domain_aid tables.now.entries.items domain) tag value → ⊥) }
 {
     if tag == KEY_INFORMATION {
@@ -96,9 +96,9 @@ pub fn judge_get_data<'a>(tables: &'a Tables, domain: u8, tag: u16) -> Result<Da
     requires in_order { IsInOrder tables.now }
     ensures tagged { IfOk result (λ found. IsTag tag) }
     ensures found { (page : ℕ → List ℕ) (said : Registry) (entry : Entry) → Represents page tables.now said → Well said
-        → held tables.now.entries.items domain ≡ Some entry → IfOk result (IsFor tables.now said domain tag) }
+        → thing_in tables.now.entries.items domain ≡ Some entry → IfOk result (IsFor tables.now said domain tag) }
     ensures none { (page : ℕ → List ℕ) (said : Registry) (entry : Entry) → Represents page tables.now said → Well said
-        → held tables.now.entries.items domain ≡ Some entry
+        → thing_in tables.now.entries.items domain ≡ Some entry
         → IfErr result (λ rule. (value : List ℕ) → HasData said (domain_aid tables.now.entries.items domain) tag value → ⊥) }
 {
     match find_datum(tables, domain, tag) {

@@ -1,7 +1,7 @@
 //! INITIALIZE UPDATE (GlobalPlatform Amendment D, 7.1.1).
 
 ghost use Rattle.std.specs.Prelude.{◌≡◌, ◌≤◌, ◌&&◌, not, ℕ, List, None, Some, IfOk, IfErr, OnOk};
-ghost use Rattle.policy_rules.specs.Prelude.{ActsIn, Admitted, AreKeysOf, HasNextCounter, HaveKeyLength, InitializeUpdateFails, IsFirst, IsInOrder, Parses, Registry, Represents, UsesSetOfKey, Well, domain_aid, held, is_card_locked, offer_rules, same_aid};
+ghost use Rattle.policy_rules.specs.Prelude.{ActsIn, Admitted, AreKeysOf, HasNextCounter, HaveKeyLength, InitializeUpdateFails, IsFirst, IsInOrder, Parses, Registry, Represents, UsesSetOfKey, Well, domain_aid, is_card_locked, offer_rules, same_aid, thing_in};
 ghost use Rattle.card_types.specs.declared.factory.TheConstants.{ISSUER};
 ghost use Rattle.card_types.specs.declared.tables.Entry.{Entry};
 ghost use Rattle.policy_machine.specs.declared.instruction.TheConstants.{INITIALIZE_UPDATE};
@@ -55,14 +55,14 @@ pub fn judge_initialize_update(
 ) -> Result<OfferedSet<'_>, Rule>
     requires in_order { IsInOrder tables.now }
     ensures selected { IfOk result (λ found. found.aid.now ≡ domain_aid tables.now.entries.items domain) }
-    ensures at { IfOk result (λ found. held tables.now.keys.items found.slot ≡ Some found.keys.enc.now) }
+    ensures at { IfOk result (λ found. thing_in tables.now.keys.items found.slot ≡ Some found.keys.enc.now) }
     ensures next { IfOk result (λ found. HasNextCounter tables.now.keys.items found.slot) }
     ensures version { IfOk result (λ found. 1 ≤ found.keys.enc.now.version) }
     ensures lengths { IfOk result (λ found. HaveKeyLength found.keys) }
     ensures keys { (page : ℕ → List ℕ) (said : Registry) → Represents page tables.now said
         → IfOk result (λ found. AreKeysOf tables.now.entries.items said (domain_aid tables.now.entries.items found.keys.enc.now.owner) found.keys.enc.now.version found.keys) }
     ensures found { (page : ℕ → List ℕ) (said : Registry) (entry : Entry) → Represents page tables.now said → Well said
-        → held tables.now.entries.items domain ≡ Some entry
+        → thing_in tables.now.entries.items domain ≡ Some entry
         → IfOk result (λ found. UsesSetOfKey tables.now.entries.items said domain version found.keys.enc.now) }
     ensures passed { (page : ℕ → List ℕ) (admitted : Admitted) → ActsIn page tables.now domain admitted → version ≡ admitted.command.p1
         → OnOk result (IsFirst (InitializeUpdateFails admitted) offer_rules None) }

@@ -2,7 +2,7 @@
 
 ghost use Rattle.std.specs.Prelude.{◌≡◌, ℕ, List, None, Some, IfOk, IfErr};
 ghost use Rattle.std.proofs.lemmas.Cmp.{nat_list_cmp_total, on_total};
-ghost use Rattle.policy_rules.specs.Prelude.{IsInOrder, Parses, Registry, Represents, aid_order, entry_of, fits_as, held, least_fitting};
+ghost use Rattle.policy_rules.specs.Prelude.{IsInOrder, Parses, Registry, Represents, aid_order, entry_of, fits_as, least_fitting, thing_in};
 ghost use Rattle.card_types.specs.declared.factory.TheConstants.{ISSUER};
 ghost use Rattle.policy_machine.specs.declared.instruction.TheConstants.{SELECT};
 
@@ -56,7 +56,7 @@ impl Search<Entry> for Fitting<'_> {
 /// The entry that SELECT takes: the least AID of those that fit.
 pub fn judge_select<'a>(tables: &'a Tables, partial: &[u8]) -> Result<InSlot<'a, Entry>, RuleSE>
     requires in_order { IsInOrder tables.now }
-    ensures at { IfOk result (λ found. held tables.now.entries.items found.slot ≡ Some found.thing.now) }
+    ensures at { IfOk result (λ found. thing_in tables.now.entries.items found.slot ≡ Some found.thing.now) }
     ensures found { (page : ℕ → List ℕ) (said : Registry) → Represents page tables.now said → IfOk result (λ found.
         least_fitting said partial.now ≡ Some (entry_of tables.now.entries.items tables.now.files.items found.thing.now)) }
     ensures none { (page : ℕ → List ℕ) (said : Registry) → Represents page tables.now said → IfErr result (λ rule. least_fitting said partial.now ≡ None) }

@@ -1,7 +1,7 @@
 //! STORE DATA (GlobalPlatform Card Specification 2.3.1, 11.11).
 
 ghost use Rattle.std.specs.Prelude.{◌≡◌, ◌↔◌, ◌+◌, ◌≤◌, ℕ, List, None, Some, IfErr, IsTrue, OnOk, length};
-ghost use Rattle.policy_rules.specs.Prelude.{ActsIn, Admitted, AreElements, AreObjects, Element, IsInOrder, IsObject, IsRequestOf, Judges, Parses, StoreDataField, StoreDataParameters, has_object_in, is_tagged_in, new_tags, used};
+ghost use Rattle.policy_rules.specs.Prelude.{ActsIn, Admitted, AreElements, AreObjects, Element, IsInOrder, IsObject, IsRequestOf, Judges, Parses, StoreDataField, StoreDataParameters, has_object_in, is_tagged_in, new_tags, things_in};
 ghost use Rattle.card_types.specs.declared.limits.TheConstants.{OBJECTS};
 ghost use Rattle.policy_machine.specs.declared.instruction.TheConstants.{STORE_DATA};
 ghost use Rattle.policy_rules.specs.declared.request.Request.TheVariants.{Store};
@@ -103,7 +103,7 @@ fn count_new(objects: &[Option<Object>], owner: u8, elements: &[u8]) -> usize
 
 // How many data objects there are.
 fn count_used(objects: &[Option<Object>]) -> usize
-    ensures number { result ≡ length (used objects.now) }
+    ensures number { result ≡ length (things_in objects.now) }
     ensures most { result ≤ length objects.now }
 {
     objects.iter().filter(|held| held.is_some()).count()
@@ -117,7 +117,7 @@ pub fn judge_store_data(tables: &Tables, domain: u8, objects: &[u8]) -> Result<(
     ensures refused { (page : ℕ → List ℕ) (admitted : Admitted) → ActsIn page tables.now domain admitted
         → IsRequestOf (Store objects.entry) admitted.command → IfErr result (λ rule. Judges admitted (Some rule)) }
     ensures roomy { (are : List Element) → AreElements are objects.now
-        → OnOk result (length (used tables.now.objects.items) + new_tags (has_object_in tables.now.objects.items domain) are ≤ OBJECTS) }
+        → OnOk result (length (things_in tables.now.objects.items) + new_tags (has_object_in tables.now.objects.items domain) are ≤ OBJECTS) }
 {
     judge_management(tables, domain)?;
     let used = count_used(&tables.objects);

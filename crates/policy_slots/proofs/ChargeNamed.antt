@@ -5,7 +5,7 @@ use Rattle.std.specs.Option.{option_map}
 use Rattle.card_types.proofs.EntryNames.{entry_in_slot, one_entry_slot}
 use Rattle.card_types.proofs.Domains.{domain_aid_is}
 use Rattle.card_types.proofs.FoundNames.{found_file_named}
-use Rattle.policy_slots.specs.Prelude.{Above, IsAboveIn, IsAtOrAbove, IsDomainNamed, IsFileInCharge, IsInCharge, Represents, Well, aid_of, bits_of, domain_aid, domain_of, domain_of_thing, domain_slot, entry_domain, entry_has, entry_named, entry_of, file_domain, file_of, held, is_domain, is_privileged, security_domain}
+use Rattle.policy_slots.specs.Prelude.{Above, IsAboveIn, IsAtOrAbove, IsDomainNamed, IsFileInCharge, IsInCharge, Represents, Well, aid_of, bits_of, domain_aid, domain_of, domain_of_thing, domain_slot, entry_domain, entry_has, entry_named, entry_of, file_domain, file_of, is_domain, is_privileged, security_domain, thing_in}
 use Rattle.card_types.specs.Registry as registry
 use Rattle.card_types.specs.declared.found.Found.TheVariants as found
 use Rattle.card_types.specs.declared.privileges.Privileges.{Privileges}
@@ -33,13 +33,13 @@ module _ (page : ℕ → List ℕ) (tables : Tables) (said : registry.Registry) 
 
   -- the entry in a slot is a domain where its AID is that of one
   domain_held : (privilege : Privileges) (slot : ℕ) (aid : List ℕ) → aid_of tables (found.Entry slot) ≡ Some aid
-      → entry_has privilege (held tables.entries.items slot) ≡ is_privileged (bits_of privilege) (entry_named said aid)
+      → entry_has privilege (thing_in tables.entries.items slot) ≡ is_privileged (bits_of privilege) (entry_named said aid)
   domain_held privilege slot aid named =
       let is = at_slot slot aid named in
       privilege_named page tables said says privilege slot is.entry is.at ∙ ap (λ (a : List ℕ). is_privileged (bits_of privilege) (entry_named said a)) is.domain
 
   pub domain_by_slot : (slot : ℕ) (aid : List ℕ) (holds : Bool) → aid_of tables (found.Entry slot) ≡ Some aid
-      → holds ≡ entry_has (record { 0 = security_domain }) (held tables.entries.items slot) → (holds ≡ true → IsDomainNamed said aid) × (IsDomainNamed said aid → holds ≡ true)
+      → holds ≡ entry_has (record { 0 = security_domain }) (thing_in tables.entries.items slot) → (holds ≡ true → IsDomainNamed said aid) × (IsDomainNamed said aid → holds ≡ true)
   domain_by_slot slot aid holds named is =
       let same = is ∙ domain_held (record { 0 = security_domain }) slot aid named in (
         λ yes_. domain_privilege (entry_named said aid) (sym same ∙ yes_),
@@ -93,7 +93,7 @@ module _ (page : ℕ → List ℕ) (tables : Tables) (said : registry.Registry) 
 
     -- an Executable Load File is in that of its own and of those above
     pub file_charge : (slot : ℕ) (domain aid : List ℕ) (within : Bool) → aid_of tables (found.File slot) ≡ Some aid
-        → ((file : LoadFile) → held tables.files.items slot ≡ Some file → IsTrue within ↔ IsFileInCharge said domain (file_of page tables.entries.items file))
+        → ((file : LoadFile) → thing_in tables.files.items slot ≡ Some file → IsTrue within ↔ IsFileInCharge said domain (file_of page tables.entries.items file))
         → IsTrue within ↔ IsInCharge said domain aid
     file_charge slot domain aid within named told =
         let file = found_file_named page tables said says slot aid named in
@@ -107,7 +107,7 @@ module _ (page : ℕ → List ℕ) (tables : Tables) (said : registry.Registry) 
         )
 
     -- the domain of a thing
-    pub domain_of_entry : (slot : ℕ) (aid : List ℕ) (entry : Entry) → aid_of tables (found.Entry slot) ≡ Some aid → held tables.entries.items slot ≡ Some entry
+    pub domain_of_entry : (slot : ℕ) (aid : List ℕ) (entry : Entry) → aid_of tables (found.Entry slot) ≡ Some aid → thing_in tables.entries.items slot ≡ Some entry
         → domain_aid tables.entries.items entry.domain ≡ domain_of_thing said aid
     domain_of_entry slot aid entry named at =
         let none = entry_no_file page tables said says aid well slot named in
@@ -117,7 +117,7 @@ module _ (page : ℕ → List ℕ) (tables : Tables) (said : registry.Registry) 
         = ap (option_map (λ (e : registry.Entry). e.domain)) there.named ∙ ap (λ (e : Entry). Some (domain_aid tables.entries.items e.domain)) same in
         sym (ap (λ (f : Option registry.LoadFile). file_domain f (entry_domain (domain_of said aid))) none ∙ ap entry_domain steps)
 
-    pub domain_of_file : (slot : ℕ) (aid : List ℕ) (file : LoadFile) → aid_of tables (found.File slot) ≡ Some aid → held tables.files.items slot ≡ Some file
+    pub domain_of_file : (slot : ℕ) (aid : List ℕ) (file : LoadFile) → aid_of tables (found.File slot) ≡ Some aid → thing_in tables.files.items slot ≡ Some file
         → domain_aid tables.entries.items file.domain ≡ domain_of_thing said aid
     domain_of_file slot aid file named at =
         let there = found_file_named page tables said says slot aid named in

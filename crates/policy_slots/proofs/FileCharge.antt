@@ -5,7 +5,7 @@ use Rattle.card_types.proofs.Domains.{file_domain_is_used, same_domain}
 use Rattle.card_types.proofs.FoundNames.{found_entry_named}
 use Rattle.card_types.proofs.LeastOfList.{found_fits}
 use Rattle.card_types.proofs.SameAid.{same_aid_decides}
-use Rattle.policy_slots.specs.Prelude.{Above, ActsIn, Admitted, IsFileInCharge, IsWellFile, Represents, Well, acting, aid_of, domain_aid, domain_slot, entry_named, file_named, file_of, held, same_aid}
+use Rattle.policy_slots.specs.Prelude.{Above, ActsIn, Admitted, IsFileInCharge, IsWellFile, Represents, Well, acting, aid_of, domain_aid, domain_slot, entry_named, file_named, file_of, same_aid, thing_in}
 use Rattle.card_types.specs.Registry as registry
 use Rattle.card_types.specs.declared.found.Found.TheVariants as found
 use Rattle.card_types.specs.declared.tables.LoadFile.{LoadFile}
@@ -31,7 +31,7 @@ entry_no_file page tables said says aid well slot is = (let named = found_entry_
 
 module _ (page : ℕ → List ℕ) (tables : Tables) (domain : ℕ) (admitted : Admitted) (acts : ActsIn page tables domain admitted) where
   -- the charge of an Executable Load File, by slots
-  module _ (slot : ℕ) (file : LoadFile) (at : held tables.files.items slot ≡ Some file) where
+  module _ (slot : ℕ) (file : LoadFile) (at : thing_in tables.files.items slot ≡ Some file) where
     abbrev InCharge : Type 0
     InCharge = IsFileInCharge admitted.at.registry (acting admitted) (file_of page tables.entries.items file)
 

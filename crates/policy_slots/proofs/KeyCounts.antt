@@ -5,7 +5,7 @@ use Rattle.std.proofs.lemmas.List.{length-map}
 use Rattle.std.proofs.lemmas.List.Sorted.{length_permutation}
 use Rattle.card_types.proofs.Members.{filtered}
 use Rattle.card_types.proofs.Shows.{held_from_used}
-use Rattle.policy_slots.specs.Prelude.{Represents, Well, domain_aid, held, is_of, key_of, keys_but, same_aid, staying, used}
+use Rattle.policy_slots.specs.Prelude.{Represents, Well, domain_aid, is_of, key_of, keys_but, same_aid, staying, thing_in, things_in}
 use Rattle.card_types.specs.Registry as registry
 use Rattle.card_types.specs.declared.tables.Entry.{Entry}
 use Rattle.card_types.specs.declared.tables.KeyRec.{KeyRec}
@@ -16,7 +16,7 @@ use Rattle.policy_slots.proofs.KeysByName.{keys_staying}
 use Rattle.policy_slots.proofs.OwnKeys.{own_is}
 
 module _ (page : ℕ → List ℕ) (tables : Tables) (said : registry.Registry) (says : Represents page tables said) (well : Well said)
-    (domain : ℕ) (entry : Entry) (at : held tables.entries.items domain ≡ Some entry) (replaced : ℕ) where
+    (domain : ℕ) (entry : Entry) (at : thing_in tables.entries.items domain ≡ Some entry) (replaced : ℕ) where
   abbrev named : KeyRec → registry.Key
   named key = key_of tables.entries.items key
 
@@ -33,7 +33,7 @@ module _ (page : ℕ → List ℕ) (tables : Tables) (said : registry.Registry) 
 
   own_alike : (key : KeyRec) → Contains stay key → (key.owner == domain) ≡ same_aid (named key).owner (domain_aid tables.entries.items domain)
   own_alike key there =
-      let slot = held_from_used tables.keys.items key (filtered (λ k. not (is_of domain replaced k)) (used tables.keys.items) key there).0 in
+      let slot = held_from_used tables.keys.items key (filtered (λ k. not (is_of domain replaced k)) (things_in tables.keys.items) key there).0 in
       own_is page tables said says well domain entry at slot.0 key slot.1
 
   -- of the keys that stay, the domain's own

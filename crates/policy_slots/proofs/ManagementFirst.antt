@@ -23,8 +23,8 @@ module _ (one two : Rule) (fails : Rule → Type 0) (rules : List Rule) where
   two_handed (Err other) rule handed failed = subst (λ (r : Rule). IsFirst fails (one ∷ two ∷ rules) (Some r)) (sym handed) (two_first rule failed)
 
   -- none of them fails
-  behind_two : (found : Option Rule) → (fails one → ⊥) → (fails two → ⊥) → IsFirst fails rules found → IsFirst fails (one ∷ two ∷ rules) found
-  behind_two found first second rest = inr (first, inr (second, rest))
+  past_two : (found : Option Rule) → (fails one → ⊥) → (fails two → ⊥) → IsFirst fails rules found → IsFirst fails (one ∷ two ∷ rules) found
+  past_two found first second rest = inr (first, inr (second, rest))
 
 module _ (fails : Rule → Type 0) (rules : List Rule) where
   pub management_handed : {T : Type 0} (result : Result T Rule) (rule : Rule) → IsErrAnd result (λ r. r ≡ rule)
@@ -32,9 +32,9 @@ module _ (fails : Rule → Type 0) (rules : List Rule) where
       → IfErr result (λ r. IsFirst fails (M M1 ∷ M M2 ∷ rules) (Some r))
   management_handed = two_handed (M M1) (M M2) fails rules
 
-  pub behind_management : (found : Option Rule) → (fails (M M1) → ⊥) → (fails (M M2) → ⊥) → IsFirst fails rules found
+  pub after_management : (found : Option Rule) → (fails (M M1) → ⊥) → (fails (M M2) → ⊥) → IsFirst fails rules found
       → IsFirst fails (M M1 ∷ M M2 ∷ rules) found
-  behind_management = behind_two (M M1) (M M2) fails rules
+  after_management = past_two (M M1) (M M2) fails rules
 
   -- where a life cycle state is set, the rule that fails is handed on
   pub setting_handed : {T : Type 0} (result : Result T Rule) (rule : Rule) → IsErrAnd result (λ r. r ≡ rule)
@@ -42,6 +42,6 @@ module _ (fails : Rule → Type 0) (rules : List Rule) where
       → IfErr result (λ r. IsFirst fails (M M2 ∷ M M3 ∷ rules) (Some r))
   setting_handed = two_handed (M M2) (M M3) fails rules
 
-  pub behind_setting : (found : Option Rule) → (fails (M M2) → ⊥) → (fails (M M3) → ⊥) → IsFirst fails rules found
+  pub after_setting : (found : Option Rule) → (fails (M M2) → ⊥) → (fails (M M3) → ⊥) → IsFirst fails rules found
       → IsFirst fails (M M2 ∷ M M3 ∷ rules) found
-  behind_setting = behind_two (M M2) (M M3) fails rules
+  after_setting = past_two (M M2) (M M3) fails rules

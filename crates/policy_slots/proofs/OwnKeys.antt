@@ -10,7 +10,7 @@ use Rattle.card_types.proofs.Domains.{key_owner_is_used, same_domain}
 use Rattle.card_types.proofs.FilterByFinds.{filter_by_finds}
 use Rattle.card_types.proofs.KeyNames.{key_order_total, least_counter, least_key, no_counter, no_key}
 use Rattle.card_types.proofs.SameAid.{aid_equal_itself, aid_same_itself, same_aid_decides}
-use Rattle.policy_slots.specs.Prelude.{IsLeast, NoneFits, Represents, Well, aid_order, counter_of, domain_aid, follows, held, is_past, keeps_counter, keeps_counter_of, keeps_counter_with, key_of, key_order, lowest_counter, name_order, same_aid, version_order}
+use Rattle.policy_slots.specs.Prelude.{IsLeast, NoneFits, Represents, Well, aid_order, counter_of, domain_aid, follows, is_past, keeps_counter, keeps_counter_of, keeps_counter_with, key_of, key_order, lowest_counter, name_order, same_aid, thing_in, version_order}
 use Rattle.card_types.specs.Registry as registry
 use Rattle.card_types.specs.declared.tables.Entry.{Entry}
 use Rattle.card_types.specs.declared.tables.KeyRec.{KeyRec}
@@ -54,14 +54,14 @@ one_owner a b owner first second =
     ap (λ (o : Ordering). ordering_then o (ordering_then (nat_cmp a.version b.version) (nat_cmp a.identifier b.identifier))) equal
 
 -- what is after a key that was found
-behind_found : (ks : List registry.Key) (owner : List ℕ) (last : Option registry.Key) (key : registry.Key)
+after_found : (ks : List registry.Key) (owner : List ℕ) (last : Option registry.Key) (key : registry.Key)
     → past_key last key ≡ true → (x : registry.Key) → (own_past owner last x && is_lt (key_order key x)) ≡ own_past owner (Some key) x
-behind_found ks owner None key past x = drop_true (same_aid x.owner owner) (is_lt (key_order key x))
+after_found ks owner None key past x = drop_true (same_aid x.owner owner) (is_lt (key_order key x))
   where
     drop_true : (a b : Bool) → ((a && true) && b) ≡ (a && b)
     drop_true true b = refl
     drop_true false b = refl
-behind_found ks owner (Some last) key past x =
+after_found ks owner (Some last) key past x =
     both_ways (own_past owner (Some last) x && is_lt (key_order key x)) (own_past owner (Some key) x)
     (λ all. (let parts = and_true (own_past owner (Some last) x) (is_lt (key_order key x)) all in
     let own = and_true (same_aid x.owner owner) (is_lt (key_order last x)) parts.0 in
@@ -81,7 +81,7 @@ found_passes test (first ∷ ks) key found = by (test first) refl found (λ late
     by false is here later = later here
 
 module _ (page : ℕ → List ℕ) (tables : Tables) (said : registry.Registry) (says : Represents page tables said) (well : Well said)
-    (owner : ℕ) (domain : Entry) (at : held tables.entries.items owner ≡ Some domain) where
+    (owner : ℕ) (domain : Entry) (at : thing_in tables.entries.items owner ≡ Some domain) where
   abbrev aid : List ℕ
   aid = domain_aid tables.entries.items owner
 
@@ -89,7 +89,7 @@ module _ (page : ℕ → List ℕ) (tables : Tables) (said : registry.Registry) 
   named key = key_of tables.entries.items key
 
   -- a key is the domain's by its slot exactly where it is by its AID
-  pub own_is : (slot : ℕ) (key : KeyRec) → held tables.keys.items slot ≡ Some key → (key.owner == owner) ≡ same_aid (named key).owner aid
+  pub own_is : (slot : ℕ) (key : KeyRec) → thing_in tables.keys.items slot ≡ Some key → (key.owner == owner) ≡ same_aid (named key).owner aid
   own_is slot key here = both_ways (key.owner == owner) (same_aid (named key).owner aid)
       (λ is. (let same : key.owner ≡ owner = equal_is key.owner is in
       ap (λ (n : ℕ). same_aid (domain_aid tables.entries.items n) aid) same ∙ aid_same_itself aid))
@@ -122,7 +122,7 @@ module _ (page : ℕ → List ℕ) (tables : Tables) (said : registry.Registry) 
       ap is_lt ((λ i. ordering_then (nat_cmp (sym is.1 i) key.version) (nat_cmp (sym is.2 i) key.identifier)) ∙ sym order)
 
   follows_is : (after : Option KeyName) (last : Option registry.Key) (slot : ℕ) (key : KeyRec) → IsAfter aid after last
-      → held tables.keys.items slot ≡ Some key → follows owner after key ≡ own_past aid last (named key)
+      → thing_in tables.keys.items slot ≡ Some key → follows owner after key ≡ own_past aid last (named key)
   follows_is after last slot key is here =
       both_ways (follows owner after key) (own_past aid last (named key))
       (λ all. (let parts = and_true (key.owner == owner) (is_past after key) all in
@@ -158,7 +158,7 @@ module _ (page : ℕ → List ℕ) (tables : Tables) (said : registry.Registry) 
       let passes = found_passes (own_past aid last) said.keys key found in
       let past = (and_true (same_aid key.owner aid) (past_key last key) passes).1 in
       let chain = rw found at (filter_by_finds (own_past aid last) said.keys says.ascending.keys) in
-      chain ∙ ap (λ (test : registry.Key → Bool). key ∷ filter test said.keys) (λ i x. behind_found said.keys aid last key past x i)
+      chain ∙ ap (λ (test : registry.Key → Bool). key ∷ filter test said.keys) (λ i x. after_found said.keys aid last key past x i)
 
   pub keys_from_none : (last : Option registry.Key) → find (own_past aid last) said.keys ≡ None → filter (own_past aid last) said.keys ≡ []
   keys_from_none last found = rw found at (filter_by_finds (own_past aid last) said.keys says.ascending.keys)
@@ -171,7 +171,7 @@ module _ (page : ℕ → List ℕ) (tables : Tables) (said : registry.Registry) 
       with_true false = refl
 
   -- the key that keeps the lowest counter
-  counts_is : (slot : ℕ) (key : KeyRec) → held tables.keys.items slot ≡ Some key
+  counts_is : (slot : ℕ) (key : KeyRec) → thing_in tables.keys.items slot ≡ Some key
       → keeps_counter_of owner key ≡ (keeps_counter key && same_aid (counter_of tables.entries.items key).owner aid)
   counts_is slot key here = ap (λ (b : Bool). keeps_counter key && b) (own_is slot key here)
 
@@ -198,16 +198,16 @@ module _ (page : ℕ → List ℕ) (tables : Tables) (said : registry.Registry) 
       (λ slot key here fits. none slot key here (counts_is slot key here ∙ fits))
 
   -- the key that keeps the counter with a key version number
-  numbered_is : (version slot : ℕ) (key : KeyRec) → held tables.keys.items slot ≡ Some key
+  numbered_is : (version slot : ℕ) (key : KeyRec) → thing_in tables.keys.items slot ≡ Some key
       → keeps_counter_with owner version key
       ≡ (keeps_counter key && (same_aid (counter_of tables.entries.items key).owner aid && (counter_of tables.entries.items key).version == version))
   numbered_is version slot key here =
       ap (λ (b : Bool). (keeps_counter key && b) && key.version == version) (own_is slot key here)
-      ∙ and_behind (keeps_counter key) (same_aid (counter_of tables.entries.items key).owner aid) (key.version == version)
+      ∙ and_after (keeps_counter key) (same_aid (counter_of tables.entries.items key).owner aid) (key.version == version)
     where
-      and_behind : (a b c : Bool) → ((a && b) && c) ≡ (a && (b && c))
-      and_behind true b c = refl
-      and_behind false b c = refl
+      and_after : (a b c : Bool) → ((a && b) && c) ≡ (a && (b && c))
+      and_after true b c = refl
+      and_after false b c = refl
 
   pub numbered_named : (version slot : ℕ) (key : KeyRec) → IsLeast (keeps_counter_with owner version) version_order tables.keys.items slot key
       → find (λ counter. same_aid counter.owner aid && counter.version == version) said.counters ≡ Some (counter_of tables.entries.items key)

@@ -2,7 +2,7 @@
 use Rattle.std.proofs.Common.{◌≡◌, List, Bool, true, false, Option, None, Some, inl, inr, refl, sym, subst}
 use Rattle.std.specs.Option.{option_map}
 use Rattle.std.specs.Prelude.{map}
-use Rattle.policy_machine.proofs.FirstJoined.{first_behind, first_within}
+use Rattle.policy_machine.proofs.FirstJoined.{first_after, first_within}
 use Rattle.policy_machine.proofs.FirstLike.{first_like, first_of_group, none_first}
 use Rattle.policy_machine.proofs.ManagedJudging.{two_pass}
 use Rattle.policy_slots.specs.Prelude.{Admitted, Approval, AskedFails, IsBroughtFor, IsFirst, IsTokenForm, JudgedForm, ManagementFails, OfEach, ReceiptFails, TokenFails, approval_of, receipt_rules, token_rules}
@@ -30,7 +30,7 @@ module _ (form : JudgedForm) (receipted : Bool) (lawful : IsTokenForm form recei
         → IsFirst Fails form.delegation.rules found
     joined found none first =
         subst (λ (rules : List Rule). IsFirst Fails rules found) (sym lawful.approval_rules)
-        (first_behind Fails (receipt_rules receipted) (map TK token_rules) found none first)
+        (first_after Fails (receipt_rules receipted) (map TK token_rules) found none first)
 
     -- none of them fails for a command that is not delegated
     pub undelegated : (form.delegation.is_delegated admitted → ⊥) → IsFirst Fails form.delegation.rules None

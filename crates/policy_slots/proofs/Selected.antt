@@ -2,20 +2,20 @@
 use Rattle.std.proofs.Common.{◌≡◌, ℕ, ◌<◌, List, Option, None, Some, sym, ap, subst, ◌∙◌}
 use Rattle.std.specs.Prelude.{slice_index_or}
 use Rattle.card_types.proofs.Domains.{domain_aid_is}
-use Rattle.policy_slots.specs.Prelude.{ActsIn, Admitted, Channel, IsSelectedIn, IsSound, RepresentsState, State, channel_at, domain_aid, held, selected_of, selected_on}
+use Rattle.policy_slots.specs.Prelude.{ActsIn, Admitted, Channel, IsSelectedIn, IsSound, RepresentsState, State, channel_at, domain_aid, selected_of, selected_on, thing_in}
 use Rattle.card_types.specs.declared.tables.Entry.{Entry}
 use Rattle.card_types.specs.declared.tables.Tables.{Tables}
 use Rattle.policy_machine.specs.declared.channels.TheConstants.{CHANNELS}
 use Rattle.policy_slots.specs.declared.live.Live.{Live}
 
 by_slot : (entries : List (Option Entry)) (slot : ℕ) (channel : Option Channel) → IsSelectedIn entries (Some slot) channel
-    → (entry : Entry) × (held entries slot ≡ Some entry) × (selected_of channel ≡ entry.aid)
+    → (entry : Entry) × (thing_in entries slot ≡ Some entry) × (selected_of channel ≡ entry.aid)
 by_slot entries slot None selected = absurd selected
 by_slot entries slot (Some channel) selected = (selected.0, selected.1, sym selected.2)
 
 pub selected_entry : (page : ℕ → List ℕ) (tables : Tables) (live : Live) (state : State) (number slot : ℕ) → RepresentsState page tables live state → number < CHANNELS
     → slice_index_or live.selected number None ≡ Some slot
-    → (entry : Entry) × (held tables.entries.items slot ≡ Some entry) × (selected_on state.volatile number ≡ domain_aid tables.entries.items slot)
+    → (entry : Entry) × (thing_in tables.entries.items slot ≡ Some entry) × (selected_on state.volatile number ≡ domain_aid tables.entries.items slot)
 selected_entry page tables live state number slot says low is =
     let found = by_slot tables.entries.items slot (channel_at state.volatile number)
     (subst (λ (o : Option ℕ). IsSelectedIn tables.entries.items o (channel_at state.volatile number)) is (says.selected number low)) in

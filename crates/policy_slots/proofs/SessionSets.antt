@@ -10,7 +10,7 @@ use Rattle.card_types.proofs.KeyNames.{counters_shown}
 use Rattle.card_types.proofs.LeastOfList.{none_fits}
 use Rattle.card_types.proofs.Lines.{one_line}
 use Rattle.card_types.proofs.SameAid.{aid_same_itself}
-use Rattle.policy_slots.specs.Prelude.{IsFirstAbove, IsLeast, IsLine, NoneAbove, NoneFits, OwnsSets, Represents, UsesSet, Well, counter_of, domain_aid, domain_slot, has_set, has_set_in, held, holds_counter_of, keeps_counter, keeps_counter_of, keeps_counter_with, lowest_counter, same_aid, set_counter, version_order}
+use Rattle.policy_slots.specs.Prelude.{IsFirstAbove, IsLeast, IsLine, NoneAbove, NoneFits, OwnsSets, Represents, UsesSet, Well, counter_of, domain_aid, domain_slot, has_set, has_set_in, holds_counter_of, keeps_counter, keeps_counter_of, keeps_counter_with, lowest_counter, same_aid, set_counter, thing_in, version_order}
 use Rattle.card_types.specs.Registry as registry
 use Rattle.card_types.specs.declared.tables.Entry.{Entry}
 use Rattle.card_types.specs.declared.tables.KeyRec.{KeyRec}
@@ -28,7 +28,7 @@ module _ (owner : ℕ) where
       false_from_ne_true (has_set_in keys owner) (λ some. (let at = passing_slot (holds_counter_of owner) refl keys some in none at.0 at.1 at.2 at.3))
 
   pub a_set : (keys : List (Option KeyRec)) → has_set_in keys owner ≡ true
-      → (slot : ℕ) × (key : KeyRec) × (held keys slot ≡ Some key) × (keeps_counter_of owner key ≡ true)
+      → (slot : ℕ) × (key : KeyRec) × (thing_in keys slot ≡ Some key) × (keeps_counter_of owner key ≡ true)
   a_set keys has = passing_slot (holds_counter_of owner) refl keys has
 
 -- a domain with a key set has a key that keeps a counter
@@ -69,7 +69,7 @@ module _ (page : ℕ → List ℕ) (tables : Tables) (said : registry.Registry) 
   abbrev aid : ℕ → List ℕ
   aid slot = domain_aid tables.entries.items slot
 
-  has_by : (slot : ℕ) (entry : Entry) → held tables.entries.items slot ≡ Some entry → (b : Bool) → has_set_in tables.keys.items slot ≡ b
+  has_by : (slot : ℕ) (entry : Entry) → thing_in tables.entries.items slot ≡ Some entry → (b : Bool) → has_set_in tables.keys.items slot ≡ b
       → has_set said (aid slot) ≡ b
   has_by slot entry at false none = ap is_some (lowest_unnamed page tables said says well slot entry at (none_held slot tables.keys.items none))
   has_by slot entry at true some = by (lowest_counter said (aid slot)) refl
@@ -86,7 +86,7 @@ module _ (page : ℕ → List ℕ) (tables : Tables) (said : registry.Registry) 
           let clash = sym some ∙ no_set slot tables.keys.items none in cc)
 
   -- a domain has a key set by its slot exactly where it has one by its AID
-  pub has_is : (slot : ℕ) (entry : Entry) → held tables.entries.items slot ≡ Some entry → has_set said (aid slot) ≡ has_set_in tables.keys.items slot
+  pub has_is : (slot : ℕ) (entry : Entry) → thing_in tables.entries.items slot ≡ Some entry → has_set said (aid slot) ≡ has_set_in tables.keys.items slot
   has_is slot entry at = has_by slot entry at (has_set_in tables.keys.items slot) refl
 
   found_named : (x : ℕ) (rest : List ℕ) (a b : Bool) → a ≡ b
@@ -118,7 +118,7 @@ module _ (page : ℕ → List ℕ) (tables : Tables) (said : registry.Registry) 
   own_first from (x ∷ next ∷ rest) is has =
       ap (λ b. cond b (Some x) (find (has_set_in tables.keys.items) (next ∷ rest))) (ap (has_set_in tables.keys.items) is.0 ∙ has) ∙ ap Some is.0
 
-  module _ (domain : ℕ) (entry : Entry) (at : held tables.entries.items domain ≡ Some entry) where
+  module _ (domain : ℕ) (entry : Entry) (at : thing_in tables.entries.items domain ≡ Some entry) where
     found_on : (slots : List ℕ) (owner : ℕ) → IsLine (domain_slot tables.entries.items) domain slots
         → find (has_set_in tables.keys.items) slots ≡ Some owner → OwnsSets said (aid domain) (aid owner)
     found_on slots owner line found = record {
@@ -156,11 +156,11 @@ module _ (page : ℕ → List ℕ) (tables : Tables) (said : registry.Registry) 
     owned_by owner key keeps = owner_is key.owner owner (second_true (keeps_counter key) (key.owner == owner) keeps)
 
     -- the domain in a slot is used where a key is its
-    used_by : (owner slot : ℕ) (key : KeyRec) → held tables.keys.items slot ≡ Some key → keeps_counter_of owner key ≡ true
-        → (e : Entry) × (held tables.entries.items owner ≡ Some e)
+    used_by : (owner slot : ℕ) (key : KeyRec) → thing_in tables.keys.items slot ≡ Some key → keeps_counter_of owner key ≡ true
+        → (e : Entry) × (thing_in tables.entries.items owner ≡ Some e)
     used_by owner slot key here keeps =
         let used = key_owner_is_used page tables said says well slot key here in
-        (used.0, subst (λ (n : ℕ). held tables.entries.items n ≡ Some used.0) (owned_by owner key keeps) used.1)
+        (used.0, subst (λ (n : ℕ). thing_in tables.entries.items n ≡ Some used.0) (owned_by owner key keeps) used.1)
 
     module _ (owner : ℕ) (owns : OwnsSets said (aid domain) (aid owner)) where
       owns_key : (key : KeyRec) → keeps_counter_of owner key ≡ true → OwnsSets said (aid domain) (aid key.owner)

@@ -5,7 +5,7 @@ use Rattle.std.specs.Option.{option_map}
 use Rattle.card_types.proofs.Domains.{domain_aid_is}
 use Rattle.card_types.proofs.FoundNames.{found_entry_named}
 use Rattle.card_types.proofs.Next.{held_from_name}
-use Rattle.policy_slots.specs.Prelude.{Above, ActsIn, Admitted, IsAboveIn, Represents, Well, acting, aid_of, domain_aid, domain_slot, entry_named, entry_of, held}
+use Rattle.policy_slots.specs.Prelude.{Above, ActsIn, Admitted, IsAboveIn, Represents, Well, acting, aid_of, domain_aid, domain_slot, entry_named, entry_of, thing_in}
 use Rattle.card_types.specs.Registry as registry
 use Rattle.card_types.specs.declared.found.Found.TheVariants as found
 use Rattle.card_types.specs.declared.tables.Entry.{Entry}
@@ -16,7 +16,7 @@ use Rattle.policy_slots.proofs.ActingDomain.{acting_aid}
 -- the entry with this AID is in the slot
 pub record IsEntryAt (tables : Tables) (said : registry.Registry) (slot : ℕ) (aid : List ℕ) : Type 0 where
   pub entry : Entry
-  pub at : held tables.entries.items slot ≡ Some entry
+  pub at : thing_in tables.entries.items slot ≡ Some entry
   pub aid_is : entry.aid ≡ aid
   pub named : entry_named said aid ≡ Some (entry_of tables.entries.items tables.files.items entry)
   pub domain : domain_aid tables.entries.items slot ≡ aid
@@ -52,7 +52,7 @@ module _ (page : ℕ → List ℕ) (tables : Tables) (said : registry.Registry) 
 
 -- the entry that the slot holds is the one that is named
 pub named_as : (tables : Tables) (said : registry.Registry) (slot : ℕ) (aid : List ℕ) (is : IsEntryAt tables said slot aid) (entry : Entry)
-    → held tables.entries.items slot ≡ Some entry → entry_named said aid ≡ Some (entry_of tables.entries.items tables.files.items entry)
+    → thing_in tables.entries.items slot ≡ Some entry → entry_named said aid ≡ Some (entry_of tables.entries.items tables.files.items entry)
 named_as tables said slot aid is entry at =
     let same : is.entry ≡ entry = (let here = is.at in cc) in
     is.named ∙ ap (λ (e : Entry). Some (entry_of tables.entries.items tables.files.items e)) same
@@ -69,8 +69,8 @@ acting_at page tables domain admitted acts =
     entry_at page tables admitted.at.registry acts.says domain (acting admitted) (acting_named page tables domain admitted acts)
 
 -- a used slot has the AID of its entry
-pub named_by_slot : (tables : Tables) (slot : ℕ) → IsSome (held tables.entries.items slot) → aid_of tables (found.Entry slot) ≡ Some (domain_aid tables.entries.items slot)
-named_by_slot tables slot used = by (held tables.entries.items slot) used
+pub named_by_slot : (tables : Tables) (slot : ℕ) → IsSome (thing_in tables.entries.items slot) → aid_of tables (found.Entry slot) ≡ Some (domain_aid tables.entries.items slot)
+named_by_slot tables slot used = by (thing_in tables.entries.items slot) used
   where
     by : (o : Option Entry) → IsSome o → option_map (λ (e : Entry). e.aid) o ≡ Some (unwrap_or (option_map (λ (e : Entry). e.aid) o) [])
     by None some = cc

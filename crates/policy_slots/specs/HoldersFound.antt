@@ -2,7 +2,7 @@
 use Rattle.std.specs.Prelude.{◌≡◌, ◌≢◌, ◌⊎◌, ℕ, Bool, false, Option, None, Some, MatchOption, ◌&&◌}
 use Rattle.std.specs.List.{list_any}
 use Rattle.card_types.specs.KeySets.{HasKey, is_key}
-use Rattle.card_types.specs.Represents.{held, domain_aid, key_of}
+use Rattle.card_types.specs.Represents.{thing_in, domain_aid, key_of}
 use Rattle.card_types.specs.declared.limits.TheConstants.{RECEIPT_LIMIT}
 use Rattle.card_types.specs.declared.privileges.Privileges.{Privileges}
 use Rattle.card_types.specs.declared.tables.KeyRec.{KeyRec}
@@ -20,7 +20,7 @@ holds_lone_key owner version (Some key) = is_key owner version 1 key
 
 -- the entry in the slot holds the privilege and such a key
 abbrev pub has_with_key_in : Tables → Privileges → ℕ → ℕ → Bool
-has_with_key_in tables privilege version slot = entry_has privilege (held tables.entries.items slot) && list_any (holds_lone_key slot version) tables.keys.items
+has_with_key_in tables privilege version slot = entry_has privilege (thing_in tables.entries.items slot) && list_any (holds_lone_key slot version) tables.keys.items
 
 -- the approval that a command brings, as the code has it
 abbrev pub approval_of : Signed → Approval
@@ -32,14 +32,14 @@ IsSignedFor admitted signed = (signed.p1 ≡ admitted.command.p1) × (signed.p2 
 
 -- the entry in the slot has a receipt key, and its last receipt has not the highest number
 pub record MayReceipt (tables : Tables) (slot : ℕ) : Type 0 where
-  pub below : MatchOption (held tables.entries.items slot) ⊥ (λ entry. entry.receipts ≢ RECEIPT_LIMIT)
+  pub below : MatchOption (thing_in tables.entries.items slot) ⊥ (λ entry. entry.receipts ≢ RECEIPT_LIMIT)
   pub key : (place : ℕ) × HasKey tables.keys.items slot 0x71 1 place
 
 -- The receipter in the slot may make another receipt, or there is none.
 pub record IsReceipterIn (tables : Tables) (admitted : Admitted) (slot : ℕ) : Type 0 where
   pub key : KeyRec
   pub is : IsReceipter admitted.at.registry (acting admitted) (domain_aid tables.entries.items slot) (key_of tables.entries.items key)
-  pub below : MatchOption (held tables.entries.items slot) ⊥ (λ entry. entry.receipts ≢ RECEIPT_LIMIT)
+  pub below : MatchOption (thing_in tables.entries.items slot) ⊥ (λ entry. entry.receipts ≢ RECEIPT_LIMIT)
 
 abbrev pub FindsReceipter : Tables → Admitted → Option ℕ → Type 0
 FindsReceipter tables admitted None = NoReceipter admitted.at.registry (acting admitted)

@@ -32,12 +32,12 @@ abbrev pub live_without_load : Live → ℕ → Live
 live_without_load live number = record { selected = live.selected; load = kept_of_others number live.load; places = live.places }
 
 -- one more block of the load session has come
-abbrev pub counted : Option LoadName → Option LoadName
-counted None = None
-counted (Some load) = Some (record { channel = load.channel; aid = load.aid; domain = load.domain; next = load.next + 1 })
+abbrev pub after_block : Option LoadName → Option LoadName
+after_block None = None
+after_block (Some load) = Some (record { channel = load.channel; aid = load.aid; domain = load.domain; next = load.next + 1 })
 
 abbrev pub live_with_block : Live → Live
-live_with_block live = record { selected = live.selected; load = counted live.load; places = live.places }
+live_with_block live = record { selected = live.selected; load = after_block live.load; places = live.places }
 
 -- the channel has this selected, or is closed, and all that it had has ended
 abbrev pub live_with_channel : Live → ℕ → Option ℕ → Live

@@ -7,7 +7,7 @@ pub use Rattle.card_types.specs.Hierarchy.{IsLine}
 pub use Rattle.card_types.specs.KeySets.{HasKey, IsKeyOf, is_key}
 pub use Rattle.card_types.specs.Privileges.{bits_of, delegated_management, security_domain}
 pub use Rattle.card_types.specs.Registry.{Entry, Registry, domain_of, entry_named, file_named, is_domain, key_named, key_order}
-pub use Rattle.card_types.specs.Represents.{IsInOrder, Represents, counter_of, domain_aid, domain_slot, entry_of, file_of, held, keeps_counter, key_of, object_of, used}
+pub use Rattle.card_types.specs.Represents.{IsInOrder, Represents, counter_of, domain_aid, domain_slot, entry_of, file_of, keeps_counter, key_of, object_of, thing_in, things_in}
 pub use Rattle.card_types.specs.Search.{IsLeast, NoneFits}
 pub use Rattle.card_types.specs.Well.{IsDomainNamed, IsKeyLength, IsKeyName, IsWellFile, IsWellKey, Well}
 pub use Rattle.domain_tree.specs.Above.{Above, IsAboveIn, IsFirstAbove, NoneAbove}

@@ -1,7 +1,7 @@
 -- How what the code keeps says the state of a card, as far as the rules look.
 use Rattle.std.specs.Option.{option_map}
 use Rattle.std.specs.Prelude.{◌≡◌, ℕ, ◌<◌, List, Option, None, Some, slice_index_or, ◌↔◌, Bool, IsTrue, length}
-use Rattle.card_types.specs.Represents.{Represents, domain_aid, held}
+use Rattle.card_types.specs.Represents.{Represents, domain_aid, thing_in}
 use Rattle.card_types.specs.Well.{Well}
 use Rattle.card_types.specs.declared.tables.Entry.{Entry}
 use Rattle.card_types.specs.declared.tables.Tables.{Tables}
@@ -24,7 +24,7 @@ abbrev pub IsSelectedIn : List (Option Entry) → Option ℕ → Option Channel 
 IsSelectedIn entries None None = Unit {0}
 IsSelectedIn entries None (Some channel) = ⊥
 IsSelectedIn entries (Some slot) None = ⊥
-IsSelectedIn entries (Some slot) (Some channel) = (entry : Entry) × (held entries slot ≡ Some entry) × (entry.aid ≡ channel.selected)
+IsSelectedIn entries (Some slot) (Some channel) = (entry : Entry) × (thing_in entries slot ≡ Some entry) × (entry.aid ≡ channel.selected)
 
 -- the load session that the code has named: its channel, its AID, its domain by the slot, and how many blocks have come
 abbrev pub IsLoadNamed : List (Option Entry) → Option LoadName → Option LoadSession → Type 0
@@ -52,7 +52,7 @@ pub record ActsIn (page : ℕ → List ℕ) (tables : Tables) (domain : ℕ) (ad
   pub says : Represents page tables admitted.at.registry
   pub well : Well admitted.at.registry
   pub entry : Entry
-  pub at : held tables.entries.items domain ≡ Some entry
+  pub at : thing_in tables.entries.items domain ≡ Some entry
   pub on : acting admitted ≡ domain_aid tables.entries.items domain
 
 -- a command that has passed acts on the registry that the card had before, for the domain that was selected then

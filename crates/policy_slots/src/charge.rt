@@ -1,7 +1,7 @@
 //! Things and security domains by their AIDs, and what is above what and in whose charge, by slots.
 
 ghost use Rattle.std.specs.Prelude.{◌≡◌, ◌↔◌, ℕ, List, None, Some, IfNone, IfSome, IsSome, IsTrue};
-ghost use Rattle.policy_slots.specs.Prelude.{ActsIn, Admitted, IsAboveIn, IsAtOrAbove, IsDomainNamed, IsFileInCharge, IsInCharge, IsInOrder, Registry, Represents, Well, acting, aid_of, domain_aid, domain_of_thing, entry_named, file_of, held};
+ghost use Rattle.policy_slots.specs.Prelude.{ActsIn, Admitted, IsAboveIn, IsAtOrAbove, IsDomainNamed, IsFileInCharge, IsInCharge, IsInOrder, Registry, Represents, Well, acting, aid_of, domain_aid, domain_of_thing, entry_named, file_of, thing_in};
 ghost use Rattle.card_types.specs.declared.found.Found.TheVariants.{Entry};
 ghost use Rattle.card_types.specs.declared.tables.LoadFile.{LoadFile};
 
@@ -63,7 +63,7 @@ pub fn is_over(tables: &Tables, thing: Found, domain: u8) -> bool
 pub fn is_in_charge(tables: &Tables, domain: u8, slot: u8) -> bool
     requires in_order { IsInOrder tables.now }
     ensures { (page : ℕ → List ℕ) (admitted : Admitted) (file : LoadFile) → ActsIn page tables.now domain admitted
-        → held tables.now.files.items slot ≡ Some file
+        → thing_in tables.now.files.items slot ≡ Some file
         → IsTrue result ↔ IsFileInCharge admitted.at.registry (acting admitted) (file_of page tables.now.entries.items file) }
 {
     match in_slot(&tables.files, slot) {
@@ -90,7 +90,7 @@ pub fn domain_of(tables: &Tables, thing: Found) -> u8
     requires there { IsSome (aid_of tables.now thing) }
     ensures named { (page : ℕ → List ℕ) (said : Registry) (aid : List ℕ) → Represents page tables.now said → Well said → aid_of tables.now thing ≡ Some aid
         → domain_aid tables.now.entries.items result ≡ domain_of_thing said aid }
-    ensures used { IsSome (held tables.now.entries.items result) }
+    ensures used { IsSome (thing_in tables.now.entries.items result) }
 {
     match thing {
         Found::Entry(slot) => in_slot(&tables.entries, slot).unwrap().domain,

@@ -3,7 +3,7 @@
 
 ghost use Rattle.std.specs.Prelude.{◌≡◌, ◌↔◌, ◌≤◌, ℕ, List, None, Some, false, IfErr, IfNone, IfOk, IfSome, IsSome, IsTrue, OnOk, length};
 ghost use Rattle.std.specs.List.{list_any};
-ghost use Rattle.policy_slots.specs.Prelude.{ActsIn, Admitted, FindsReceipter, ForActing, HasKey, Holds, IsFirst, IsInOrder, IsKeyLength, IsNearestHolder, IsSignedFor, MayManage, MayReceipt, NoHolder, ReceiptFails, TokenFails, acting, approval_of, bits_of, delegated_management, domain_aid, entry_has, has_with_key_in, held, key_of, token, token_rules};
+ghost use Rattle.policy_slots.specs.Prelude.{ActsIn, Admitted, FindsReceipter, ForActing, HasKey, Holds, IsFirst, IsInOrder, IsKeyLength, IsNearestHolder, IsSignedFor, MayManage, MayReceipt, NoHolder, ReceiptFails, TokenFails, acting, approval_of, bits_of, delegated_management, domain_aid, entry_has, has_with_key_in, key_of, thing_in, token, token_rules};
 ghost use Rattle.policy_slots.specs.HoldersFound.{holds_lone_key as holds_lone_key_by};
 ghost use Rattle.policy_machine.specs.declared.delegation.RuleRC.TheVariants.{RC1};
 
@@ -63,7 +63,7 @@ impl Wanted for Holders<'_> {
 
 /// Whether the entry in a slot holds a privilege.
 pub fn holds(entries: &[Option<Entry>], slot: u8, privilege: Privileges) -> bool
-    ensures { result ≡ entry_has privilege (held entries.now slot) }
+    ensures { result ≡ entry_has privilege (thing_in entries.now slot) }
 {
     match in_slot(entries, slot) {
         Some(entry) => entry.privileges.contains(privilege),
@@ -114,7 +114,7 @@ pub fn nearest_with_key(
         IsNearestHolder admitted.at.registry (bits_of privilege) version (acting admitted)
         (domain_aid tables.now.entries.items found.0) (key_of tables.now.entries.items found.1.now))) }
     ensures none { ForActing tables.now domain (λ page admitted. IfNone result (NoHolder admitted.at.registry (bits_of privilege) version (acting admitted))) }
-    ensures used { IfSome result (λ found. IsSome (held tables.now.entries.items found.0)) }
+    ensures used { IfSome result (λ found. IsSome (thing_in tables.now.entries.items found.0)) }
     ensures key { IfSome result (λ found. (place : ℕ) × HasKey tables.now.keys.items found.0 version 1 place) }
     ensures length { IfSome result (λ found. IsKeyLength (length found.1.now.bytes.items)) }
 {

@@ -1,7 +1,7 @@
 //! The rules that the commands of card content management and INITIALIZE UPDATE have in common.
 
 ghost use Rattle.std.specs.Prelude.{◌≡◌, ◌↔◌, ◌⊎◌, ℕ, List, Some, IfErr, IsTrue, OnOk};
-ghost use Rattle.policy_slots.specs.Prelude.{ActsIn, Admitted, ManagementFails, TellsCard, acting, held, same_aid};
+ghost use Rattle.policy_slots.specs.Prelude.{ActsIn, Admitted, ManagementFails, TellsCard, acting, same_aid, thing_in};
 ghost use Rattle.card_types.specs.declared.factory.TheConstants.{ISSUER};
 ghost use Rattle.card_types.specs.declared.tables.Entry.{Entry};
 ghost use Rattle.policy_machine.specs.declared.management.RuleM.TheVariants.{M1, M2, M3};
@@ -19,7 +19,7 @@ pub fn is_issuer(aid: &Aid) -> bool
 
 /// Whether the domain in a slot is locked.
 pub fn is_locked(tables: &Tables, domain: u8) -> bool
-    ensures { (entry : Entry) → held tables.now.entries.items domain ≡ Some entry → result ≡ entry.life.locked }
+    ensures { (entry : Entry) → thing_in tables.now.entries.items domain ≡ Some entry → result ≡ entry.life.locked }
 {
     match in_slot(&tables.entries, domain) {
         Some(entry) => entry.life.locked,

@@ -1,7 +1,7 @@
 //! Which key sets a session uses.
 
 ghost use Rattle.std.specs.Prelude.{◌≡◌, ℕ, List, Some, true, IfSome, IfNone};
-ghost use Rattle.policy_slots.specs.Prelude.{IsInOrder, NoSetToUse, OwnsSets, Registry, Represents, UsesSetOfKey, Well, domain_aid, has_set_in, held, holds_counter_of};
+ghost use Rattle.policy_slots.specs.Prelude.{IsInOrder, NoSetToUse, OwnsSets, Registry, Represents, UsesSetOfKey, Well, domain_aid, has_set_in, holds_counter_of, thing_in};
 ghost use Rattle.card_types.specs.Represents.{keeps_counter as keeps_counter_by};
 ghost use Rattle.card_types.specs.declared.tables.Entry.{Entry};
 
@@ -44,10 +44,10 @@ fn holds_counter(owner: u8, held: &Option<KeyRec>) -> bool
 fn set_owner(tables: &Tables, domain: u8) -> Option<u8>
     requires in_order { IsInOrder tables.now }
     ensures some { (page : ℕ → List ℕ) (said : Registry) (entry : Entry) → Represents page tables.now said → Well said
-        → held tables.now.entries.items domain ≡ Some entry
+        → thing_in tables.now.entries.items domain ≡ Some entry
         → IfSome result (λ owner. OwnsSets said (domain_aid tables.now.entries.items domain) (domain_aid tables.now.entries.items owner)) }
     ensures none { (page : ℕ → List ℕ) (said : Registry) (entry : Entry) → Represents page tables.now said → Well said
-        → held tables.now.entries.items domain ≡ Some entry
+        → thing_in tables.now.entries.items domain ≡ Some entry
         → IfNone result ((owner : List ℕ) → OwnsSets said (domain_aid tables.now.entries.items domain) owner → ⊥) }
     ensures has_set { IfSome result (λ owner. has_set_in tables.now.keys.items owner ≡ true) }
 {
@@ -62,13 +62,13 @@ fn set_owner(tables: &Tables, domain: u8) -> Option<u8>
 /// version number, or for 00 of the lowest.
 pub fn session_set(tables: &Tables, domain: u8, version: u8) -> Option<InSlot<'_, KeyRec>>
     requires in_order { IsInOrder tables.now }
-    ensures held { IfSome result (λ found. held tables.now.keys.items found.slot ≡ Some found.thing.now) }
+    ensures held { IfSome result (λ found. thing_in tables.now.keys.items found.slot ≡ Some found.thing.now) }
     ensures counts { IfSome result (λ found. keeps_counter_by found.thing.now ≡ true) }
     ensures some { (page : ℕ → List ℕ) (said : Registry) (entry : Entry) → Represents page tables.now said → Well said
-        → held tables.now.entries.items domain ≡ Some entry
+        → thing_in tables.now.entries.items domain ≡ Some entry
         → IfSome result (λ found. UsesSetOfKey tables.now.entries.items said domain version found.thing.now) }
     ensures none { (page : ℕ → List ℕ) (said : Registry) (entry : Entry) → Represents page tables.now said → Well said
-        → held tables.now.entries.items domain ≡ Some entry
+        → thing_in tables.now.entries.items domain ≡ Some entry
         → IfNone result (NoSetToUse said (domain_aid tables.now.entries.items domain) version) }
 {
     let owner = set_owner(tables, domain)?;

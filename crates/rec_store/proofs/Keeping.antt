@@ -3,7 +3,7 @@ use Rattle.std.proofs.Common.{◌≡◌, ℕ, zero, suc, ◌/◌, ◌<◌, List,
 use Rattle.std.specs.Prelude.{All, Contains, replicate}
 use Rattle.std.proofs.lemmas.List.Elements.{All-nil}
 use Rattle.std.proofs.lemmas.List.FromFn.{get_or-range_with_len}
-use Rattle.card_types.specs.Represents.{used}
+use Rattle.card_types.specs.Represents.{things_in}
 use Rattle.card_types.specs.declared.limits.TheConstants.{KEYS}
 use Rattle.rec_store.specs.Keeper.{key_pages}
 use Rattle.rec_store.specs.Places.{key_page}
@@ -18,6 +18,6 @@ among_key_pages slot lt =
 abbrev free_slots : {T : Type 0} → ℕ → List (Option T)
 free_slots count = replicate count None
 
-pub free_keys : {T : Type 0} (P : T → Type 0) (count : ℕ) → (length (free_slots {T = T} count) ≡ count) × All P (used (free_slots {T = T} count))
+pub free_keys : {T : Type 0} (P : T → Type 0) (count : ℕ) → (length (free_slots {T = T} count) ≡ count) × All P (things_in (free_slots {T = T} count))
 free_keys P zero = (refl, All-nil P)
 free_keys P (suc count) = (let rest = free_keys P count in (ap suc rest.0, rest.1))

@@ -12,7 +12,7 @@ range_kept old new from to upto same within kept =
 pub bytes_kept : (old new : List ℕ) (at upto : ℕ) (bytes : List ℕ) → length new ≡ length old → at + 1 + length bytes ≤ upto → ((i : ℕ) → i < upto → get_or new i 0 ≡ get_or old i 0) → HasBytesAt old at bytes → HasBytesAt new at bytes
 bytes_kept old new at upto bytes same within kept was = record {
   count = kept at (omega arith) ∙ was.count;
-  behind = range_kept old new (at + 1) (at + 1 + length bytes) upto same within kept ∙ was.behind;
+  after = range_kept old new (at + 1) (at + 1 + length bytes) upto same within kept ∙ was.after;
 }
 
 -- a number that is at most 0 where it does not count

@@ -6,7 +6,7 @@ use Rattle.card_types.specs.Registry.{Registry}
 use Rattle.card_types.specs.declared.tables.Tables.{Tables}
 use Rattle.flash_core.specs.Device.{Only}
 use Rattle.flash_core.specs.declared.page.Page.{Page}
-use Rattle.page_journal.specs.Journal.{HasValidJournal, bytes_of, copied_place, descriptor, is_open, stored}
+use Rattle.page_journal.specs.Journal.{HasValidJournal, bytes_of, copied_place, descriptor, is_open, stored_page}
 use Rattle.rec_store.specs.Reopens.{KeepsPages, load_page, store_in, store_page}
 use Rattle.rec_store.specs.StoredTables.{HoldsTables}
 use Rattle.rec_store.specs.declared.store_layout.Layout.TheVariants.{Third}
@@ -15,7 +15,7 @@ use Rattle.page_journal.proofs.PageKinds.{gate_page}
 
 module _ (pages : List Page) (closed : is_open pages ≡ false) where
   -- each page is at its own place
-  at_home : (n : ℕ) → stored pages n ≡ slice_get pages n
+  at_home : (n : ℕ) → stored_page pages n ≡ slice_get pages n
   at_home n = ap (λ b. slice_get pages (if b then copied_place (descriptor pages) n else n)) closed
 
   sound : HasValidJournal pages

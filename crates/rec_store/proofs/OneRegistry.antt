@@ -21,7 +21,7 @@ use Rattle.card_types.proofs.ObjectNames.{object_order_total}
 use Rattle.card_types.proofs.Shows.{shows_used}
 use Rattle.card_types.specs.Aid.{aid_order}
 use Rattle.card_types.specs.Registry.{counter_order, key_order, object_order}
-use Rattle.card_types.specs.Represents.{HasIssuer, Represents, counter_of, domain_aid, entry_of, file_aid, file_of, keeps_counter, key_of, object_of, used, held}
+use Rattle.card_types.specs.Represents.{HasIssuer, Represents, counter_of, domain_aid, entry_of, file_aid, file_of, keeps_counter, key_of, object_of, things_in, thing_in}
 use Rattle.card_types.specs.Privileges.{bits_of, named_bits}
 use Rattle.card_types.specs.Registry as registry
 use Rattle.card_types.specs.Well.{IsWellEntry}
@@ -42,7 +42,7 @@ use Rattle.rec_store.proofs.Roomy.{of_all, of_slot}
 use Rattle.rec_store.proofs.OneThing.{AreThreeBytes, AreSameFiles, SameFile, one_card_life, one_entry, one_file, one_key, one_object}
 
 module _ {T : Type 0} where
-  pub same_slots : (xs ys : List (Option T)) → length xs ≡ length ys → ((i : ℕ) → i < length xs → held xs i ≡ held ys i) → xs ≡ ys
+  pub same_slots : (xs ys : List (Option T)) → length xs ≡ length ys → ((i : ℕ) → i < length xs → thing_in xs i ≡ thing_in ys i) → xs ≡ ys
   same_slots [] [] count each = refl
   same_slots [] (y ∷ ys) count each = absurd (omega (arith, count))
   same_slots (x ∷ xs) [] count each = absurd (omega (arith, count))
@@ -51,13 +51,13 @@ module _ {T : Type 0} where
       let rest = same_slots xs ys (omega (arith, count)) (λ i lt. each (suc i) (omega (arith, lt))) in
       cc
 
-  pub same_views : {X : Type 0} (view : T → X) (xs ys : List (Option T)) → length xs ≡ length ys → ((i : ℕ) → i < length xs → option_map view (held xs i) ≡ option_map view (held ys i)) → map view (used xs) ≡ map view (used ys)
+  pub same_views : {X : Type 0} (view : T → X) (xs ys : List (Option T)) → length xs ≡ length ys → ((i : ℕ) → i < length xs → option_map view (thing_in xs i) ≡ option_map view (thing_in ys i)) → map view (things_in xs) ≡ map view (things_in ys)
   same_views view [] [] count each = refl
   same_views view [] (y ∷ ys) count each = absurd (omega (arith, count))
   same_views view (x ∷ xs) [] count each = absurd (omega (arith, count))
   same_views view (x ∷ xs) (y ∷ ys) count each = by_first x y (each 0 (omega arith)) (same_views view xs ys (omega (arith, count)) (λ i lt. each (suc i) (omega (arith, lt))))
     where
-      by_first : (a b : Option T) → option_map view a ≡ option_map view b → map view (used xs) ≡ map view (used ys) → map view (used (a ∷ xs)) ≡ map view (used (b ∷ ys))
+      by_first : (a b : Option T) → option_map view a ≡ option_map view b → map view (things_in xs) ≡ map view (things_in ys) → map view (things_in (a ∷ xs)) ≡ map view (things_in (b ∷ ys))
       by_first None None same rest = rest
       by_first None (Some b) same rest = absurd (cc same)
       by_first (Some a) None same rest = absurd (cc same)
@@ -92,10 +92,10 @@ pub card_of_said : (load : ℕ → List ℕ) (t : Tables) (said : registry.Regis
 card_of_said load t said card says = subst (IsCardOf load t) (said_once load t card.said said card.of.says says) card.of
 
 -- entries of a card have privileges with names
-card_entry : (load : ℕ → List ℕ) (tables : Tables) (said : registry.Registry) → IsCardOf load tables said → (i : ℕ) → AreThreeBytes (held tables.entries.items i)
-card_entry load tables said card i = of (held tables.entries.items i) refl
+card_entry : (load : ℕ → List ℕ) (tables : Tables) (said : registry.Registry) → IsCardOf load tables said → (i : ℕ) → AreThreeBytes (thing_in tables.entries.items i)
+card_entry load tables said card i = of (thing_in tables.entries.items i) refl
   where
-    of : (entry : Option Entry) → held tables.entries.items i ≡ entry → AreThreeBytes entry
+    of : (entry : Option Entry) → thing_in tables.entries.items i ≡ entry → AreThreeBytes entry
     of None is = tt
     of (Some entry) is =
         let view = entry_of tables.entries.items tables.files.items in
@@ -106,15 +106,15 @@ card_entry load tables said card i = of (held tables.entries.items i) refl
 -- slots hold one list of keys
 pub one_keys : (store : ℕ → List ℕ) (xs ys : List (Option KeyRec)) → length xs ≡ KEYS → length ys ≡ KEYS → AreHeld HoldsKey (key_slot store) KEYS xs → AreHeld HoldsKey (key_slot store) KEYS ys → xs ≡ ys
 one_keys store xs ys count also first second =
-    same_slots xs ys (count ∙ sym also) (λ i lt. one_key (key_slot store i) (held xs i) (held ys i) (first i (omega (arith, lt, count))) (second i (omega (arith, lt, count))))
+    same_slots xs ys (count ∙ sym also) (λ i lt. one_key (key_slot store i) (thing_in xs i) (thing_in ys i) (first i (omega (arith, lt, count))) (second i (omega (arith, lt, count))))
 
 module _ (store load : ℕ → List ℕ) (t u : Tables) {a b : Layout} (first : HoldsTables a store t) (second : HoldsTables b store u) where
-  same_file : (i : ℕ) → i < length t.files.items → AreSameFiles (held t.files.items i) (held u.files.items i)
-  same_file i lt = let n = first.slots.files in one_file (file_slot store i) (held t.files.items i) (held u.files.items i) (first.files i (omega (arith, lt, n))) (second.files i (omega (arith, lt, n)))
+  same_file : (i : ℕ) → i < length t.files.items → AreSameFiles (thing_in t.files.items i) (thing_in u.files.items i)
+  same_file i lt = let n = first.slots.files in one_file (file_slot store i) (thing_in t.files.items i) (thing_in u.files.items i) (first.files i (omega (arith, lt, n))) (second.files i (omega (arith, lt, n)))
 
   -- what hangs on all that counts of a file is the same
-  pub same_file_views : {X : Type 0} (view : LoadFile → X) → ((x y : LoadFile) → SameFile x y → view x ≡ view y) → (i : ℕ) → i < length t.files.items → option_map view (held t.files.items i) ≡ option_map view (held u.files.items i)
-  same_file_views view congruent i lt = by_slots (held t.files.items i) (held u.files.items i) (same_file i lt)
+  pub same_file_views : {X : Type 0} (view : LoadFile → X) → ((x y : LoadFile) → SameFile x y → view x ≡ view y) → (i : ℕ) → i < length t.files.items → option_map view (thing_in t.files.items i) ≡ option_map view (thing_in u.files.items i)
+  same_file_views view congruent i lt = by_slots (thing_in t.files.items i) (thing_in u.files.items i) (same_file i lt)
     where
       by_slots : (a b : Option LoadFile) → AreSameFiles a b → option_map view a ≡ option_map view b
       by_slots None None same = refl
@@ -125,22 +125,22 @@ module _ (store load : ℕ → List ℕ) (t u : Tables) {a b : Layout} (first : 
   pub files_count : length t.files.items ≡ length u.files.items
   files_count = first.slots.files ∙ sym second.slots.files
 
-  pub same_pages : map pages_named (used t.files.items) ≡ map pages_named (used u.files.items)
+  pub same_pages : map pages_named (things_in t.files.items) ≡ map pages_named (things_in u.files.items)
   same_pages = same_views pages_named t.files.items u.files.items files_count (same_file_views pages_named (λ x y same. same.pages))
 
   same_file_aid : (slot : ℕ) → file_aid t.files.items slot ≡ file_aid u.files.items slot
   same_file_aid slot = elim (cases_lt slot (length t.files.items)) [
     | inl lt ↦ ap (λ aid. unwrap_or aid []) (same_file_views (λ file. file.aid) (λ x y same. same.aid) slot lt)
     | inr past ↦
-        (let none : held t.files.items slot ≡ None = get_or_past t.files.items slot None past in
-        let also_none : held u.files.items slot ≡ None = get_or_past u.files.items slot None (omega (arith, past, files_count)) in
+        (let none : thing_in t.files.items slot ≡ None = get_or_past t.files.items slot None past in
+        let also_none : thing_in u.files.items slot ≡ None = get_or_past u.files.items slot None (omega (arith, past, files_count)) in
         ap (λ file. unwrap_or (option_map (λ file. file.aid) file) []) (none ∙ sym also_none))
   ]
 
-  same_entries : ((i : ℕ) → AreThreeBytes (held t.entries.items i)) → ((i : ℕ) → AreThreeBytes (held u.entries.items i)) → t.entries.items ≡ u.entries.items
+  same_entries : ((i : ℕ) → AreThreeBytes (thing_in t.entries.items i)) → ((i : ℕ) → AreThreeBytes (thing_in u.entries.items i)) → t.entries.items ≡ u.entries.items
   same_entries three also =
       same_slots t.entries.items u.entries.items (first.slots.entries ∙ sym second.slots.entries)
-      (λ i lt. one_entry (entry_slot store i) (held t.entries.items i) (held u.entries.items i) (three i) (also i) (first.entries i (omega (arith, lt, first.slots.entries))) (second.entries i (omega (arith, lt, first.slots.entries))))
+      (λ i lt. one_entry (entry_slot store i) (thing_in t.entries.items i) (thing_in u.entries.items i) (three i) (also i) (first.entries i (omega (arith, lt, first.slots.entries))) (second.entries i (omega (arith, lt, first.slots.entries))))
 
   module _ (same : t.entries.items ≡ u.entries.items) where
     same_keys : t.keys.items ≡ u.keys.items
@@ -149,19 +149,19 @@ module _ (store load : ℕ → List ℕ) (t u : Tables) {a b : Layout} (first : 
     same_objects : t.objects.items ≡ u.objects.items
     same_objects =
         same_slots t.objects.items u.objects.items (first.slots.objects ∙ sym second.slots.objects)
-        (λ i lt. one_object (object_slot store i) (held t.objects.items i) (held u.objects.items i) (first.objects i (omega (arith, lt, first.slots.objects))) (second.objects i (omega (arith, lt, first.slots.objects))))
+        (λ i lt. one_object (object_slot store i) (thing_in t.objects.items i) (thing_in u.objects.items i) (first.objects i (omega (arith, lt, first.slots.objects))) (second.objects i (omega (arith, lt, first.slots.objects))))
 
-    shown_entries : map (entry_of t.entries.items t.files.items) (used t.entries.items) ≡ map (entry_of u.entries.items u.files.items) (used u.entries.items)
+    shown_entries : map (entry_of t.entries.items t.files.items) (things_in t.entries.items) ≡ map (entry_of u.entries.items u.files.items) (things_in u.entries.items)
     shown_entries =
-        same_map (entry_of t.entries.items t.files.items) (entry_of t.entries.items u.files.items) (λ entry. let file = same_file_aid entry.file in λ i. record (entry_of t.entries.items t.files.items entry) { file = file i }) (used t.entries.items)
-        ∙ ap (λ entries. map (entry_of entries u.files.items) (used entries)) same
+        same_map (entry_of t.entries.items t.files.items) (entry_of t.entries.items u.files.items) (λ entry. let file = same_file_aid entry.file in λ i. record (entry_of t.entries.items t.files.items entry) { file = file i }) (things_in t.entries.items)
+        ∙ ap (λ entries. map (entry_of entries u.files.items) (things_in entries)) same
 
-    shown_files : map (file_of load t.entries.items) (used t.files.items) ≡ map (file_of load u.entries.items) (used u.files.items)
+    shown_files : map (file_of load t.entries.items) (things_in t.files.items) ≡ map (file_of load u.entries.items) (things_in u.files.items)
     shown_files =
         same_views (file_of load t.entries.items) t.files.items u.files.items files_count
         (same_file_views (file_of load t.entries.items) (λ x y same. let aid = same.aid in let domain = same.domain in let size = same.size in let pages = same.pages in
         λ i. record { aid = aid i; domain = domain_aid t.entries.items (domain i); bytes = take (size i) (concat (map load (pages i))) }))
-        ∙ ap (λ entries. map (file_of load entries) (used u.files.items)) same
+        ∙ ap (λ entries. map (file_of load entries) (things_in u.files.items)) same
 
     -- what the one say, the others do
     says_alike : (said : registry.Registry) → Represents load u said → Represents load t said
@@ -169,9 +169,9 @@ module _ (store load : ℕ → List ℕ) (t u : Tables) {a b : Layout} (first : 
       life = one_card_life (store 0) t.life u.life first.superblock second.superblock ∙ says.life;
       entries = subst (λ all. IsPermutation all said.entries) (sym shown_entries) says.entries;
       files = subst (λ all. IsPermutation all said.files) (sym shown_files) says.files;
-      keys = subst (λ all. IsPermutation all said.keys) (sym (ap (λ entries. map (key_of entries) (used t.keys.items)) same ∙ ap (λ keys. map (key_of u.entries.items) (used keys)) same_keys)) says.keys;
-      counters = subst (λ all. IsPermutation all said.counters) (sym (ap (λ entries. map (counter_of entries) (filter keeps_counter (used t.keys.items))) same ∙ ap (λ keys. map (counter_of u.entries.items) (filter keeps_counter (used keys))) same_keys)) says.counters;
-      objects = subst (λ all. IsPermutation all said.objects) (sym (ap (λ entries. map (object_of entries) (used t.objects.items)) same ∙ ap (λ objects. map (object_of u.entries.items) (used objects)) same_objects)) says.objects;
+      keys = subst (λ all. IsPermutation all said.keys) (sym (ap (λ entries. map (key_of entries) (things_in t.keys.items)) same ∙ ap (λ keys. map (key_of u.entries.items) (things_in keys)) same_keys)) says.keys;
+      counters = subst (λ all. IsPermutation all said.counters) (sym (ap (λ entries. map (counter_of entries) (filter keeps_counter (things_in t.keys.items))) same ∙ ap (λ keys. map (counter_of u.entries.items) (filter keeps_counter (things_in keys))) same_keys)) says.counters;
+      objects = subst (λ all. IsPermutation all said.objects) (sym (ap (λ entries. map (object_of entries) (things_in t.objects.items)) same ∙ ap (λ objects. map (object_of u.entries.items) (things_in objects)) same_objects)) says.objects;
       ascending = says.ascending;
     }
 
@@ -196,15 +196,15 @@ module _ (store load : ℕ → List ℕ) (t u : Tables) {a b : Layout} (first : 
     pub card_alike : (said : registry.Registry) → IsCardOf load u said → IsCardOf load t said
     card_alike said card = record {
       layout = record { entries = first.slots.entries; files = first.slots.files; keys = first.slots.keys; objects = first.slots.objects; issuer = subst HasIssuer (sym same) card.layout.issuer };
-      factory_file = factory_alike (held t.files.items 0) (held u.files.items 0) (same_file 0 (omega (arith, first.slots.files))) card.factory_file;
-      files = of_all IsInLoadPages t.files.items (λ i lt. loaded_alike (held t.files.items i) (held u.files.items i) (same_file i lt) (of_slot IsInLoadPages u.files.items i card.files));
+      factory_file = factory_alike (thing_in t.files.items 0) (thing_in u.files.items 0) (same_file 0 (omega (arith, first.slots.files))) card.factory_file;
+      files = of_all IsInLoadPages t.files.items (λ i lt. loaded_alike (thing_in t.files.items i) (thing_in u.files.items i) (same_file i lt) (of_slot IsInLoadPages u.files.items i card.files));
       apart = subst (λ pages. IsDistinct nat_eq (concat pages)) (sym same_pages) card.apart;
       says = says_alike said card.says;
       well = card.well;
     }
 
 -- tables that were read, where the store pages hold a card's
-pub read_card : (store load : ℕ → List ℕ) (t u : Tables) (said : registry.Registry) {a b : Layout} → HoldsTables a store t → All HasThreeBytes (used t.entries.items) → HoldsTables b store u → IsCardOf load u said → IsCardOf load t said
+pub read_card : (store load : ℕ → List ℕ) (t u : Tables) (said : registry.Registry) {a b : Layout} → HoldsTables a store t → All HasThreeBytes (things_in t.entries.items) → HoldsTables b store u → IsCardOf load u said → IsCardOf load t said
 read_card store load t u said read three held_u card =
     card_alike store load t u read held_u (same_entries store load t u read held_u (λ i. of_slot HasThreeBytes t.entries.items i three) (card_entry load u said card)) said card
 

@@ -56,7 +56,7 @@ one_mark : (a b : LifeMark) → life_mark_code a ≡ life_mark_code b → a ≡ 
 one_mark a b same = sym (mark_back a.life a.locked) ∙ ap mark_of same ∙ mark_back b.life b.locked
 
 one_bytes : (slot : List ℕ) (at : ℕ) (a b : List ℕ) → HasBytesAt slot at a → HasBytesAt slot at b → a ≡ b
-one_bytes slot at a b first second = sym first.behind ∙ ap (λ n. slice_range slot (at + 1) (at + 1 + n)) (sym first.count ∙ second.count) ∙ second.behind
+one_bytes slot at a b first second = sym first.after ∙ ap (λ n. slice_range slot (at + 1) (at + 1 + n)) (sym first.count ∙ second.count) ∙ second.after
 
 abbrev pub AreThreeBytes : Option Entry → Type 0
 AreThreeBytes entry = IfSome entry HasThreeBytes

@@ -9,14 +9,14 @@ use Rattle.std.proofs.lemmas.List.Elements.{All-cons, All-contains, All-head, Al
 use Rattle.card_check.specs.IsCard.{HasPages, IsCardOf, pages_named}
 use Rattle.card_types.proofs.Members.{contains_first, contains_later}
 use Rattle.card_types.specs.Registry.{Registry}
-use Rattle.card_types.specs.Represents.{Represents, domain_aid, file_of, used, held}
+use Rattle.card_types.specs.Represents.{Represents, domain_aid, file_of, things_in, thing_in}
 use Rattle.card_types.specs.declared.limits.TheConstants.{ENTRIES, FILES, KEYS, OBJECTS}
 use Rattle.card_types.specs.declared.tables.LoadFile.{LoadFile}
 use Rattle.card_types.specs.declared.tables.Tables.{Tables}
 use Rattle.flash_core.specs.Device.{NoneNew, Only}
 use Rattle.flash_core.specs.declared.flash.Flash.{Ghosts as Flash}
 use Rattle.flash_core.specs.declared.page.Page.{Page}
-use Rattle.page_journal.specs.Journal.{HasValidJournal, bytes_of, stored}
+use Rattle.page_journal.specs.Journal.{HasValidJournal, bytes_of, stored_page}
 use Rattle.page_journal.specs.Moments.{Always, Leaves, current, first_of}
 use Rattle.rec_store.specs.EntrySlot.{HoldsEntry}
 use Rattle.rec_store.specs.FileSlot.{HoldsFile}
@@ -35,7 +35,7 @@ use Rattle.page_journal.proofs.PageKinds.{IsPastJournal, IsPastStore, journal_or
 module _ (old new : ℕ → List ℕ) (same : (n : ℕ) → IsStorePage n → new n ≡ old n) where
   held_same : {T : Type 0} (holds : List ℕ → Option T → Type 0) (first size count : ℕ) (things : List (Option T)) → ((i : ℕ) → i < count → IsStorePage (first + i / (256 / size))) → AreHeld holds (slot_from old first size) count things → AreHeld holds (slot_from new first size) count things
   held_same holds first size count things within was i lt =
-      subst (λ bytes. holds bytes (held things i)) (sym (ap (λ page. slot_at page size (i % (256 / size))) (same (first + i / (256 / size)) (within i lt)))) (was i lt)
+      subst (λ bytes. holds bytes (thing_in things i)) (sym (ap (λ page. slot_at page size (i % (256 / size))) (same (first + i / (256 / size)) (within i lt)))) (was i lt)
 
   pub tables_same : {layout : Layout} (t : Tables) → HoldsTables layout old t → HoldsTables layout new t
   tables_same {layout = layout} t was = record {
@@ -56,9 +56,9 @@ map_same f g (x ∷ xs) each =
     cc
 
 -- tables say the same over load pages of which those are the same that a file has
-module _ (old new : ℕ → List ℕ) (t : Tables) (same : (file : LoadFile) → Contains (used t.files.items) file → (n : ℕ) → Contains (pages_named file) n → new n ≡ old n) where
-  same_files : map (file_of new t.entries.items) (used t.files.items) ≡ map (file_of old t.entries.items) (used t.files.items)
-  same_files = map_same (file_of new t.entries.items) (file_of old t.entries.items) (used t.files.items) (λ file among.
+module _ (old new : ℕ → List ℕ) (t : Tables) (same : (file : LoadFile) → Contains (things_in t.files.items) file → (n : ℕ) → Contains (pages_named file) n → new n ≡ old n) where
+  same_files : map (file_of new t.entries.items) (things_in t.files.items) ≡ map (file_of old t.entries.items) (things_in t.files.items)
+  same_files = map_same (file_of new t.entries.items) (file_of old t.entries.items) (things_in t.files.items) (λ file among.
       let pages = map_same new old (pages_named file) (same file among) in
       λ i. record { aid = file.aid; domain = domain_aid t.entries.items file.domain; bytes = take file.len (concat (pages i)) })
 
@@ -106,8 +106,8 @@ module _ (list : ℕ → Option Page) (loose : List ℕ) (outcome : List Page) (
   left_store : (n : ℕ) → IsStorePage n → store_page outcome n ≡ store_in list n
   left_store n lt = ap bytes_of (leaves.store n lt)
 
-  left_load : (file : LoadFile) → Contains (used t.files.items) file → (n : ℕ) → Contains (pages_named file) n → load_page outcome n ≡ load_in list n
-  left_load file among n named = load_same (stored outcome) list n (λ high. leaves.load n high (λ is_loose. All-contains (λ file. Contains (pages_named file) n → ⊥) (used t.files.items) file (free n is_loose) among named))
+  left_load : (file : LoadFile) → Contains (things_in t.files.items) file → (n : ℕ) → Contains (pages_named file) n → load_page outcome n ≡ load_in list n
+  left_load file among n named = load_same (stored_page outcome) list n (λ high. leaves.load n high (λ is_loose. All-contains (λ file. Contains (pages_named file) n → ⊥) (things_in t.files.items) file (free n is_loose) among named))
 
   pub left_tables : {layout : Layout} → HoldsTables layout (store_in list) t → HoldsTables layout (store_page outcome) t
   left_tables held = tables_same (store_in list) (store_page outcome) left_store t held
@@ -120,9 +120,9 @@ module _ (list : ℕ → Option Page) (loose : List ℕ) (outcome : List Page) (
 
 -- pages that hold a registry, of which all else that power loss leaves are loose pages
 pub keeps : (pages : List Page) (may_leave : List Page → Type 0) (registry : Registry) {layout : Layout} (t : Tables) → HasValidJournal pages → HoldsTables layout (store_page pages) t → IsCardOf (load_page pages) t registry
-    → (loose : List ℕ) → Always may_leave (Leaves (stored pages) loose) → ((n : ℕ) → Contains loose n → IsFree t n) → KeepsPages pages may_leave registry
+    → (loose : List ℕ) → Always may_leave (Leaves (stored_page pages) loose) → ((n : ℕ) → Contains loose n → IsFree t n) → KeepsPages pages may_leave registry
 keeps pages may_leave registry {layout = layout} t sound held card loose leaves free = record {
-  reopens = λ outcome possible. left (stored pages) loose outcome t (leaves outcome possible) free registry card held;
+  reopens = λ outcome possible. left (stored_page pages) loose outcome t (leaves outcome possible) free registry card held;
   now = record { sound = sound; holds = record { layout = layout; tables = t; held = held; card = card } };
   loose = loose;
   leaves = leaves;
@@ -147,17 +147,17 @@ load_read list n page high is whole = sym (load_at list n high ∙ ap (λ one. t
     first = take-append-le 256 page.bytes (replicate 256 0) (omega (arith, whole)) ∙ take_all 256 page.bytes (omega (arith, whole))
 
 -- no load page is staged
-pub load_current : (pool : List (ℕ × Page)) (pages : List Page) (n : ℕ) → NoLoadPage pool → IsPastStore n → current pool pages n ≡ stored pages n
-load_current pool pages n none le = ap (λ one. first_of one (stored pages n)) (none n le)
+pub load_current : (pool : List (ℕ × Page)) (pages : List Page) (n : ℕ) → NoLoadPage pool → IsPastStore n → current pool pages n ≡ stored_page pages n
+load_current pool pages n none le = ap (λ one. first_of one (stored_page pages n)) (none n le)
 
 pub on_ok : {A B : Type 0} (result : Result A B) (P Q : Type 0) → (P → Q) → OnOk result P → OnOk result Q
 on_ok (Ok value) P Q step holds = step holds
 on_ok (Err error) P Q step holds = tt
 
 -- files of which each has none of these pages, and those of other tables with the same pages
-free_same : (t u : Tables) (page : ℕ) → map pages_named (used t.files.items) ≡ map pages_named (used u.files.items) → IsFree t page → IsFree u page
+free_same : (t u : Tables) (page : ℕ) → map pages_named (things_in t.files.items) ≡ map pages_named (things_in u.files.items) → IsFree t page → IsFree u page
 free_same t u page same free =
-    All-from_map (used u.files.items) (subst (All (λ named. Contains named page → ⊥)) same (All-map (λ named. Contains named page → ⊥) pages_named (used t.files.items) free))
+    All-from_map (things_in u.files.items) (subst (All (λ named. Contains named page → ⊥)) same (All-map (λ named. Contains named page → ⊥) pages_named (things_in t.files.items) free))
   where
     All-from_map : (files : List LoadFile) → All (λ named. Contains named page → ⊥) (map pages_named files) → All (λ file. Contains (pages_named file) page → ⊥) files
     All-from_map [] all = All-nil (λ file. Contains (pages_named file) page → ⊥)
@@ -204,6 +204,6 @@ pub none_loose : (t : Tables) (n : ℕ) → Contains [] n → IsFree t n
 none_loose t n among = absurd (omega (arith, among.1))
 
 -- the pages as read are all that power loss may leave
-pub only_leaves : (pages : List Page) (may_leave : List Page → Type 0) → HasValidJournal pages → Only pages may_leave → Always may_leave (Leaves (stored pages) [])
+pub only_leaves : (pages : List Page) (may_leave : List Page → Type 0) → HasValidJournal pages → Only pages may_leave → Always may_leave (Leaves (stored_page pages) [])
 only_leaves pages may_leave sound only outcome possible =
-    subst (Leaves (stored pages) []) (sym (only outcome possible)) (record { sound = sound; store = λ n lt. refl; load = λ n high tight. refl })
+    subst (Leaves (stored_page pages) []) (sym (only outcome possible)) (record { sound = sound; store = λ n lt. refl; load = λ n high tight. refl })

@@ -6,7 +6,7 @@ use Rattle.std.proofs.lemmas.Bool.{cases_Bool, cases_eq}
 use Rattle.std.proofs.lemmas.Bool.Decides.{nat_tests}
 use Rattle.std.proofs.lemmas.List.Sums.{sum_by-cons}
 use Rattle.card_types.proofs.Members.{contains_cases, contains_first, contains_later}
-use Rattle.rec_store.specs.Room.{HasFrame, HasRoomFor, with_staged}
+use Rattle.rec_store.specs.Room.{HasFrame, HasFramesFor, with_staged}
 
 -- counts of two tests, of which the first is true wherever the second is
 cond_fewer : (a b : Bool) → (b ≡ true → a ≡ true) → cond b 1 0 ≤ cond a 1 0
@@ -80,9 +80,9 @@ not_staged staged page other out = elim (cases_Bool (has staged other)) [
   | inr gone ↦ ap not gone
 ]
 
-pub room_stays : (pages staged : List ℕ) (page : ℕ) → HasRoomFor pages staged → Contains pages page → HasFrame staged page × HasRoomFor pages (with_staged staged page)
+pub room_stays : (pages staged : List ℕ) (page : ℕ) → HasFramesFor pages staged → Contains pages page → HasFrame staged page × HasFramesFor pages (with_staged staged page)
 room_stays pages staged page room among = elim (cases_Bool (has staged page)) [
-  | inl there ↦ (inl (contained staged page there), subst (HasRoomFor pages) (sym (stays staged page there)) room)
+  | inl there ↦ (inl (contained staged page there), subst (HasFramesFor pages) (sym (stays staged page there)) room)
   | inr out ↦
       (let less = fewer_by_one (λ other. not (has staged other)) (λ other. not (has (with_staged staged page) other)) (not_staged staged page) page (ap not out) (ap not (joins staged page)) pages among in
       (inr (omega (arith, less, room)), omega (arith, less, room, one_more staged page)))

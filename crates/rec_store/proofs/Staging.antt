@@ -6,12 +6,12 @@ use Rattle.std.proofs.lemmas.Bool.Decides.{nat_tests}
 use Rattle.std.proofs.lemmas.List.{get_or-set_other}
 use Rattle.std.proofs.Math.Nat.{div-add-mod}
 use Rattle.card_types.proofs.Members.{contains_cases}
-use Rattle.card_types.specs.Represents.{held}
+use Rattle.card_types.specs.Represents.{thing_in}
 use Rattle.card_types.specs.declared.tables.Tables.{Tables}
 use Rattle.flash_core.specs.declared.flash.Flash.{Ghosts as Flash}
 use Rattle.flash_core.specs.declared.page.Page.{Page}
-use Rattle.frame_pool.specs.Staged.{staged, with_page}
-use Rattle.page_journal.specs.Journal.{bytes_of, stored}
+use Rattle.frame_pool.specs.Staged.{staged_at, with_page}
+use Rattle.page_journal.specs.Journal.{bytes_of, stored_page}
 use Rattle.page_journal.specs.Moments.{first_of}
 use Rattle.page_journal.specs.Store.{Store}
 use Rattle.rec_store.specs.Reopens.{NoLoadPage, current_page}
@@ -27,7 +27,7 @@ Pages = List (ℕ × Page)
 abbrev pub numbers : Pages → List ℕ
 numbers pool = map (λ page. page.0) pool
 
-some_staged : (pool : Pages) (page : ℕ) → Contains (numbers pool) page → IsSome (staged pool page)
+some_staged : (pool : Pages) (page : ℕ) → Contains (numbers pool) page → IsSome (staged_at pool page)
 some_staged [] page among = absurd (omega (arith, among.1))
 some_staged (first ∷ rest) page among = elim (cases_eq first.0 page) [
   | inl same ↦ grind (arith, nat_tests)
@@ -42,7 +42,7 @@ count_numbers [] = refl
 count_numbers (first ∷ rest) = omega (arith, count_numbers rest)
 
 -- the page is staged, or there is a frame
-pub frame : (pool : Pages) (page : ℕ) → HasFrame (numbers pool) page → IsSome (staged pool page) ⊎ (length pool < 30)
+pub frame : (pool : Pages) (page : ℕ) → HasFrame (numbers pool) page → IsSome (staged_at pool page) ⊎ (length pool < 30)
 frame pool page (inl among) = inl (some_staged pool page among)
 frame pool page (inr room) = inr (omega (arith, room, count_numbers pool))
 
@@ -53,18 +53,18 @@ staged_numbers (first ∷ rest) page x = elim (cases_eq first.0 page) [
   | inr other ↦ (let later : numbers (with_page rest page x) ≡ with_staged (numbers rest) page = staged_numbers rest page x in grind (arith, nat_tests))
 ]
 
-staged_here : (pool : Pages) (page : ℕ) (x : Page) → staged (with_page pool page x) page ≡ Some x
+staged_here : (pool : Pages) (page : ℕ) (x : Page) → staged_at (with_page pool page x) page ≡ Some x
 staged_here [] page x = grind (arith, nat_tests)
 staged_here (first ∷ rest) page x = elim (cases_eq first.0 page) [
   | inl same ↦ grind (arith, nat_tests)
-  | inr other ↦ (let later : staged (with_page rest page x) page ≡ Some x = staged_here rest page x in grind (arith, nat_tests))
+  | inr other ↦ (let later : staged_at (with_page rest page x) page ≡ Some x = staged_here rest page x in grind (arith, nat_tests))
 ]
 
-staged_apart : (pool : Pages) (page : ℕ) (x : Page) (n : ℕ) → n ≢ page → staged (with_page pool page x) n ≡ staged pool n
+staged_apart : (pool : Pages) (page : ℕ) (x : Page) (n : ℕ) → n ≢ page → staged_at (with_page pool page x) n ≡ staged_at pool n
 staged_apart [] page x n apart = grind (arith, nat_tests)
 staged_apart (first ∷ rest) page x n apart = elim (cases_eq first.0 page) [
   | inl same ↦ grind (arith, nat_tests)
-  | inr other ↦ (let later : staged (with_page rest page x) n ≡ staged rest n = staged_apart rest page x n apart in
+  | inr other ↦ (let later : staged_at (with_page rest page x) n ≡ staged_at rest n = staged_apart rest page x n apart in
       elim (cases_eq first.0 n) [
         | inl is ↦ grind (arith, nat_tests)
         | inr differs ↦ grind (arith, nat_tests)
@@ -80,10 +80,10 @@ none_staged (first ∷ rest) none = absurd (cc none)
 
 -- the page as it is now, and the others as they were
 pub page_here : (pool : Pages) (pages : List Page) (page : ℕ) (x : Page) → current_page (with_page pool page x) pages page ≡ x.bytes
-page_here pool pages page x = ap (λ one. bytes_of (first_of one (stored pages page))) (staged_here pool page x)
+page_here pool pages page x = ap (λ one. bytes_of (first_of one (stored_page pages page))) (staged_here pool page x)
 
 pub page_apart : (pool : Pages) (pages : List Page) (page : ℕ) (x : Page) (n : ℕ) → n ≢ page → current_page (with_page pool page x) pages n ≡ current_page pool pages n
-page_apart pool pages page x n apart = ap (λ one. bytes_of (first_of one (stored pages n))) (staged_apart pool page x n apart)
+page_apart pool pages page x n apart = ap (λ one. bytes_of (first_of one (stored_page pages n))) (staged_apart pool page x n apart)
 
 module _ {T : Type 0} (holds : List ℕ → Option T → Type 0) (old new : ℕ → List ℕ) (page : ℕ) (apart : (n : ℕ) → n ≢ page → new n ≡ old n) (first size : ℕ) where
   slot_apart : (slot : ℕ) → first + slot / (256 / size) ≢ page → slot_from new first size slot ≡ slot_from old first size slot
@@ -91,7 +91,7 @@ module _ {T : Type 0} (holds : List ℕ → Option T → Type 0) (old new : ℕ 
 
   -- things of another kind are in other pages
   pub held_apart : (count : ℕ) (things : List (Option T)) → ((slot : ℕ) → slot < count → first + slot / (256 / size) ≢ page) → AreHeld holds (slot_from old first size) count things → AreHeld holds (slot_from new first size) count things
-  held_apart count things other was slot lt = subst (λ bytes. holds bytes (held things slot)) (sym (slot_apart slot (other slot lt))) (was slot lt)
+  held_apart count things other was slot lt = subst (λ bytes. holds bytes (thing_in things slot)) (sym (slot_apart slot (other slot lt))) (was slot lt)
 
   -- the things in the page, and in the other pages those that were there
   held_set : (bytes : List ℕ) (count slot : ℕ) (thing : Option T) (things : List (Option T)) → page ≡ first + slot / (256 / size) → new page ≡ bytes → HoldsPage holds size bytes (slot / (256 / size)) (slice_set things slot thing)
@@ -100,11 +100,11 @@ module _ {T : Type 0} (holds : List ℕ → Option T → Type 0) (old new : ℕ 
     | inl same ↦
         (let place : slot / (256 / size) * (256 / size) + i % (256 / size) ≡ i = ap (λ n. n * (256 / size) + i % (256 / size)) (sym same) ∙ whole i in
         let at : slot_from new first size i ≡ slot_at bytes size (i % (256 / size)) = ap (λ n. slot_at (new (first + n)) size (i % (256 / size))) same ∙ ap (λ n. slot_at (new n) size (i % (256 / size))) (sym is) ∙ ap (λ b. slot_at b size (i % (256 / size))) here in
-        subst (λ b. holds b (held (slice_set things slot thing) i)) (sym at)
-        (subst (λ n. holds (slot_at bytes size (i % (256 / size))) (held (slice_set things slot thing) n)) place (in_page (i % (256 / size)) (within i))))
+        subst (λ b. holds b (thing_in (slice_set things slot thing) i)) (sym at)
+        (subst (λ n. holds (slot_at bytes size (i % (256 / size))) (thing_in (slice_set things slot thing) n)) place (in_page (i % (256 / size)) (within i))))
     | inr other ↦
-        (let same : held (slice_set things slot thing) i ≡ held things i = get_or-set_other things slot i thing None (λ e. other (ap (λ n. n / (256 / size)) e)) in
-        subst (λ b. holds b (held (slice_set things slot thing) i)) (sym (slot_apart i (λ e. other (omega (arith, e, is)))))
+        (let same : thing_in (slice_set things slot thing) i ≡ thing_in things i = get_or-set_other things slot i thing None (λ e. other (ap (λ n. n / (256 / size)) e)) in
+        subst (λ b. holds b (thing_in (slice_set things slot thing) i)) (sym (slot_apart i (λ e. other (omega (arith, e, is)))))
         (subst (holds (slot_from old first size i)) (sym same) (was i lt)))
   ]
     where
@@ -121,7 +121,7 @@ module _ {T : Type 0} (holds : List ℕ → Option T → Type 0) (old new : ℕ 
       (λ put. held_set bytes count slot thing things is here put some was) in_page
 
 -- the frame for a page, by the numbers of the staged pages
-pub frame_for : (pool : Pages) (shown : List ℕ) (page : ℕ) → numbers pool ≡ shown → HasFrame shown page → IsSome (staged pool page) ⊎ (length pool < 30)
+pub frame_for : (pool : Pages) (shown : List ℕ) (page : ℕ) → numbers pool ≡ shown → HasFrame shown page → IsSome (staged_at pool page) ⊎ (length pool < 30)
 frame_for pool shown page is room = frame pool page (subst (λ staged. HasFrame staged page) (sym is) room)
 
 -- what is kept of records

@@ -1,6 +1,6 @@
 -- Store pages that are written one after the other.
 use Rattle.std.proofs.Common.{◌≡◌, ℕ, ◌+◌, ◌*◌, ◌/◌, List, Option, Some, slice_get, ap, sym, subst, ◌∙◌, arith}
-use Rattle.card_types.specs.Represents.{held}
+use Rattle.card_types.specs.Represents.{thing_in}
 use Rattle.flash_core.specs.Device.{SameBut}
 use Rattle.flash_core.specs.declared.page.Page.{Page}
 use Rattle.page_journal.specs.Journal.{bytes_of}
@@ -16,10 +16,10 @@ pub held_more : {T : Type 0} (holds : List ℕ → Option T → Type 0) (first s
     → AreHeld holds (slot_from (store_in (slice_get old)) first size) (number * (256 / size)) things
     → AreHeld holds (slot_from (store_in (slice_get new)) first size) ((number + 1) * (256 / size)) things
 held_more holds first size number at old new page things is torn written in_page so_far =
-    page_more (256 / size) number (λ slot. holds (slot_from store first size slot) (held things slot))
+    page_more (256 / size) number (λ slot. holds (slot_from store first size slot) (thing_in things slot))
     (held_apart holds (store_in (slice_get old)) store at (λ n apart. ap bytes_of (torn.others n apart)) first size (number * (256 / size)) things
     (λ slot lt e. omega (arith, e, is, earlier_page slot number (256 / size) lt)) so_far)
-    (λ place lt. subst (λ bytes. holds bytes (held things (number * (256 / size) + place))) (sym (slot_in_page store first size number place lt ∙ ap (λ bytes. slot_at bytes size place) here)) (in_page place lt))
+    (λ place lt. subst (λ bytes. holds bytes (thing_in things (number * (256 / size) + place))) (sym (slot_in_page store first size number place lt ∙ ap (λ bytes. slot_at bytes size place) here)) (in_page place lt))
   where
     store : ℕ → List ℕ
     store = store_in (slice_get new)

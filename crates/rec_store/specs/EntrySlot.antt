@@ -7,7 +7,7 @@ use Rattle.card_types.specs.LifeMark.{life_mark_code}
 use Rattle.card_types.specs.Privileges.{bits_of}
 use Rattle.card_types.specs.declared.tables.Entry.{Entry}
 use Rattle.rec_store.specs.Bytes.{HasAid, HasBytesAt}
-use Rattle.rec_store.specs.Slot.{Holds}
+use Rattle.rec_store.specs.Slot.{SlotHolds}
 
 pub record IsEntryIn (slot : List ℕ) (entry : Entry) : Type 0 where
   pub mark : slice_index slot 0 ≡ 0x01
@@ -21,7 +21,7 @@ pub record IsEntryIn (slot : List ℕ) (entry : Entry) : Type 0 where
   pub receipts : big_from 41 2 slot ≡ entry.receipts
 
 abbrev pub HoldsEntry : List ℕ → Option Entry → Type 0
-HoldsEntry = Holds IsEntryIn
+HoldsEntry = SlotHolds IsEntryIn
 
 -- its privileges are in three bytes, as all that have names
 abbrev pub HasThreeBytes : Entry → Type 0

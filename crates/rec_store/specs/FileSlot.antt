@@ -8,7 +8,7 @@ use Rattle.card_types.specs.declared.limits.TheConstants.{FILE_LIMIT}
 use Rattle.card_types.specs.declared.tables.LoadFile.{LoadFile}
 use Rattle.page_journal.specs.declared.pages.TheConstants.{FIRST_LOAD_PAGE}
 use Rattle.rec_store.specs.Bytes.{HasAid}
-use Rattle.rec_store.specs.Slot.{Holds}
+use Rattle.rec_store.specs.Slot.{SlotHolds}
 
 abbrev pub ninth_bit : List ℕ → ℕ → ℕ
 ninth_bit slot i = slice_index slot (192 + i / 8) / 2 ^ (7 - i % 8) % 2
@@ -26,4 +26,4 @@ pub record IsFileIn (slot : List ℕ) (file : LoadFile) : Type 0 where
   pub pages : (i : ℕ) → i < pages_of file.len → slice_index file.pages i ≡ page_in slot i
 
 abbrev pub HoldsFile : List ℕ → Option LoadFile → Type 0
-HoldsFile = Holds IsFileIn
+HoldsFile = SlotHolds IsFileIn

@@ -1,6 +1,6 @@
 -- For the code inside. Things in the first slots of tables.
 use Rattle.std.specs.Prelude.{◌≡◌, ℕ, ◌≤◌, List, Option, length}
-use Rattle.card_types.specs.Represents.{HasSlots, held}
+use Rattle.card_types.specs.Represents.{HasSlots, thing_in}
 use Rattle.card_types.specs.declared.card_life.CardLife.{CardLife}
 use Rattle.card_types.specs.declared.limits.TheConstants.{ENTRIES, FILES, KEYS, OBJECTS}
 use Rattle.card_types.specs.declared.tables.Entry.{Entry}
@@ -20,7 +20,7 @@ pub record HaveRoom (entry_list : List (Option Entry)) (file_list : List (Option
 pub record HasFirst (tables : Tables) (state : CardLife) (entry_list : List (Option Entry)) (file_list : List (Option LoadFile)) (key_list : List (Option KeyRec)) (object_list : List (Option Object)) : Type 0 where
   pub slots : HasSlots tables
   pub life : tables.life ≡ state
-  pub entries : (slot : ℕ) → held tables.entries.items slot ≡ held entry_list slot
-  pub files : (slot : ℕ) → held tables.files.items slot ≡ held file_list slot
-  pub keys : (slot : ℕ) → held tables.keys.items slot ≡ held key_list slot
-  pub objects : (slot : ℕ) → held tables.objects.items slot ≡ held object_list slot
+  pub entries : (slot : ℕ) → thing_in tables.entries.items slot ≡ thing_in entry_list slot
+  pub files : (slot : ℕ) → thing_in tables.files.items slot ≡ thing_in file_list slot
+  pub keys : (slot : ℕ) → thing_in tables.keys.items slot ≡ thing_in key_list slot
+  pub objects : (slot : ℕ) → thing_in tables.objects.items slot ≡ thing_in object_list slot

@@ -3,7 +3,7 @@ use Rattle.std.specs.Prelude.{◌≡◌, ℕ, List, true, refl}
 use Rattle.std.specs.List.{range_with_len}
 use Rattle.std.proofs.Common.{◌∙◌}
 use Rattle.rec_store.specs.Contents.{Contents}
-use Rattle.rec_store.specs.Room.{HasRoomFor}
+use Rattle.rec_store.specs.Room.{HasFramesFor}
 
 -- the store pages with the key slots
 abbrev pub key_pages : List ℕ
@@ -12,7 +12,7 @@ key_pages = range_with_len 25 12
 -- no commit has failed, and each key page is staged or there is a frame for it
 pub record IsRoomy {F : Type 0} (records : Contents F) : Type 0 where
   pub live : records.live ≡ true
-  pub room : HasRoomFor key_pages records.staged
+  pub room : HasFramesFor key_pages records.staged
 
 -- the device, whether no commit has failed, and all of the tables but the key slots are the same
 pub record SameElse {F : Type 0} (old new : Contents F) : Type 0 where

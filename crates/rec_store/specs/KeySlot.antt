@@ -6,7 +6,7 @@ use Rattle.card_types.specs.Represents.{keeps_counter}
 use Rattle.card_types.specs.declared.limits.TheConstants.{COUNTER_LIMIT}
 use Rattle.card_types.specs.declared.tables.KeyRec.{KeyRec}
 use Rattle.rec_store.specs.Bytes.{HasBytesAt}
-use Rattle.rec_store.specs.Slot.{Holds}
+use Rattle.rec_store.specs.Slot.{SlotHolds}
 
 pub record IsKeyIn (slot : List ℕ) (key : KeyRec) : Type 0 where
   pub mark : slice_index slot 0 ≡ 0x01
@@ -18,7 +18,7 @@ pub record IsKeyIn (slot : List ℕ) (key : KeyRec) : Type 0 where
   pub counter : key.counter ≡ (if keeps_counter key then big_from 37 3 slot else 0)
 
 abbrev pub HoldsKey : List ℕ → Option KeyRec → Type 0
-HoldsKey = Holds IsKeyIn
+HoldsKey = SlotHolds IsKeyIn
 
 -- a slot has room for the key: its counter is one that a key set may have, or 0 where it keeps none
 abbrev pub IsRoomyKey : KeyRec → Type 0

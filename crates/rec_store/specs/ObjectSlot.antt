@@ -3,7 +3,7 @@ use Rattle.std.specs.Prelude.{◌≡◌, ℕ, ◌≤◌, List, Option, length, s
 use Rattle.byteorder.specs.Endian.{big_from}
 use Rattle.card_types.specs.declared.tables.Object.{Object}
 use Rattle.rec_store.specs.Bytes.{HasBytesAt}
-use Rattle.rec_store.specs.Slot.{Holds}
+use Rattle.rec_store.specs.Slot.{SlotHolds}
 
 pub record IsObjectIn (slot : List ℕ) (object : Object) : Type 0 where
   pub mark : slice_index slot 0 ≡ 0x01
@@ -13,4 +13,4 @@ pub record IsObjectIn (slot : List ℕ) (object : Object) : Type 0 where
   pub value : HasBytesAt slot 4 object.value.items
 
 abbrev pub HoldsObject : List ℕ → Option Object → Type 0
-HoldsObject = Holds IsObjectIn
+HoldsObject = SlotHolds IsObjectIn

@@ -3,11 +3,11 @@ pub use Rattle.byteorder.specs.Endian.{big_from}
 pub use Rattle.card_check.specs.IsCard.{HasPages, IsCard, IsInLoadPages}
 pub use Rattle.card_types.specs.Aid.{IsAid}
 pub use Rattle.card_types.specs.Registry.{Registry}
-pub use Rattle.card_types.specs.Represents.{HasSlots, IsInOrder, Represents, held, used}
+pub use Rattle.card_types.specs.Represents.{HasSlots, IsInOrder, Represents, thing_in, things_in}
 pub use Rattle.card_types.specs.SlotChange.{SetsEntry, SetsFile, SetsKey, SetsObject}
 pub use Rattle.faults.specs.Faults.{HasCause, Rose}
 pub use Rattle.flash_core.specs.Device.{Only}
-pub use Rattle.frame_pool.specs.Staged.{staged, with_page}
+pub use Rattle.frame_pool.specs.Staged.{staged_at, with_page}
 pub use Rattle.page_journal.specs.Journal.{HasValidJournal}
 pub use Rattle.page_journal.specs.Moments.{Always, LeavesOnly}
 pub use Rattle.page_journal.specs.Pages.{IsLoadPage, IsStorePage}
@@ -20,9 +20,9 @@ pub use Rattle.rec_store.specs.Keeper.{IsRoomy, SameElse, same_else_on, same_els
 pub use Rattle.rec_store.specs.KeySlot.{IsRoomyKey}
 pub use Rattle.rec_store.specs.Places.{entry_page, file_page, key_page, object_page, slot_at, slot_from}
 pub use Rattle.rec_store.specs.Reading.{IsRead}
-pub use Rattle.rec_store.specs.Reopens.{AreSpare, IsAtRest, IsFree, IsInLayout, IsSpare, Keeps, Reopens, ReopensAsOne, ReopensEither, load_page, store_in, store_page}
+pub use Rattle.rec_store.specs.Reopens.{AreSpare, IsAtRest, IsFree, IsInLayout, IsSpare, KeepsRegistry, Reopens, ReopensAsOne, ReopensEither, load_page, store_in, store_page}
 pub use Rattle.rec_store.specs.Room.{HasFrame, with_staged}
-pub use Rattle.rec_store.specs.Slot.{Holds}
+pub use Rattle.rec_store.specs.Slot.{SlotHolds}
 pub use Rattle.rec_store.specs.StoreLayout.{FitsLayout, IsShort, layout_code}
 pub use Rattle.rec_store.specs.StoredTables.{AreHeld, AreRoomy, HoldsPage, HoldsTables}
 pub use Rattle.rec_store.specs.Superblock.{IsSuperblock}

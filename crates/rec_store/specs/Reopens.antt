@@ -2,12 +2,12 @@
 use Rattle.std.specs.Prelude.{◌≡◌, ◌⊎◌, ℕ, ◌≤◌, ◌++◌, List, [], Option, None, Contains, All, false, take, replicate, nat_lt, slice_index, if◌then◌else◌}
 use Rattle.card_check.specs.IsCard.{IsCardOf, pages_named}
 use Rattle.card_types.specs.Registry.{Registry}
-use Rattle.card_types.specs.Represents.{used}
+use Rattle.card_types.specs.Represents.{things_in}
 use Rattle.card_types.specs.declared.tables.Tables.{Tables}
 use Rattle.flash_core.specs.declared.flash.Flash.{Ghosts as Flash}
 use Rattle.flash_core.specs.declared.page.Page.{Page}
-use Rattle.frame_pool.specs.Staged.{staged}
-use Rattle.page_journal.specs.Journal.{HasValidJournal, bytes_of, is_open, stored}
+use Rattle.frame_pool.specs.Staged.{staged_at}
+use Rattle.page_journal.specs.Journal.{HasValidJournal, bytes_of, is_open, stored_page}
 use Rattle.page_journal.specs.Moments.{Always, Leaves, current}
 use Rattle.page_journal.specs.declared.pages.TheConstants.{FIRST_LOAD_PAGE, STORE_PAGES}
 use Rattle.rec_store.specs.StoreLayout.{layout_code}
@@ -34,10 +34,10 @@ load_in list number = take 256 ((if nat_lt number FIRST_LOAD_PAGE then [] else b
 
 -- the bytes of a store page of a device, an open journal applied
 abbrev pub store_page : List Page → ℕ → List ℕ
-store_page pages = store_in (stored pages)
+store_page pages = store_in (stored_page pages)
 
 abbrev pub load_page : List Page → ℕ → List ℕ
-load_page pages = load_in (stored pages)
+load_page pages = load_in (stored_page pages)
 
 -- the number of this layout is in the superblock
 abbrev pub IsInLayout : Layout → List Page → Type 0
@@ -54,7 +54,7 @@ current_page staged pages = store_in (current staged pages)
 
 -- no load page is staged
 abbrev pub NoLoadPage : List (ℕ × Page) → Type 0
-NoLoadPage pool = (number : ℕ) → STORE_PAGES ≤ number → staged pool number ≡ None
+NoLoadPage pool = (number : ℕ) → STORE_PAGES ≤ number → staged_at pool number ≡ None
 
 -- after a power loss that left these pages the card has this registry
 pub record Reopens (pages : List Page) (registry : Registry) : Type 0 where
@@ -67,7 +67,7 @@ ReopensAsOne registries pages = (registry : Registry) × Contains registries reg
 
 -- no Executable Load File has this load page
 abbrev pub IsFree : Tables → ℕ → Type 0
-IsFree tables page = All (λ file. Contains (pages_named file) page → ⊥) (used tables.files.items)
+IsFree tables page = All (λ file. Contains (pages_named file) page → ⊥) (things_in tables.files.items)
 
 -- no Executable Load File of the tables that the device holds has this load page
 abbrev pub IsSpare : {F : Type 0} → Flash F → F → ℕ → Type 0
@@ -82,12 +82,12 @@ pub record KeepsPages (pages : List Page) (may_leave : List Page → Type 0) (re
   pub reopens : Always may_leave (λ outcome. Reopens outcome registry)
   pub now : Reopens pages registry
   pub loose : List ℕ
-  pub leaves : Always may_leave (Leaves (stored pages) loose)
+  pub leaves : Always may_leave (Leaves (stored_page pages) loose)
   pub free : (page : ℕ) → Contains loose page → IsFree now.holds.tables page
 
 -- The pages of a device, with what power lost now may leave of them, keep this registry.
-abbrev pub Keeps : {F : Type 0} → Flash F → F → Registry → Type 0
-Keeps device flash registry = KeepsPages (device.pages flash) (device.may_leave flash) registry
+abbrev pub KeepsRegistry : {F : Type 0} → Flash F → F → Registry → Type 0
+KeepsRegistry device flash registry = KeepsPages (device.pages flash) (device.may_leave flash) registry
 
 -- after a power loss that left these pages the card has one registry or the other
 abbrev pub ReopensEither : Registry → Registry → List Page → Type 0

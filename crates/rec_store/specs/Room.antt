@@ -13,9 +13,9 @@ with_staged [] page = page ∷ []
 with_staged (first ∷ rest) page = if first == page then first ∷ rest else first ∷ with_staged rest page
 
 -- how many of these pages are not staged yet
-abbrev pub unstaged : List ℕ → List ℕ → ℕ
-unstaged pages staged = count_by (λ page. not (list_any (λ other. other == page) staged)) pages
+abbrev pub unstaged_count : List ℕ → List ℕ → ℕ
+unstaged_count pages staged = count_by (λ page. not (list_any (λ other. other == page) staged)) pages
 
 -- there is a frame for each of them that is not staged yet
-abbrev pub HasRoomFor : List ℕ → List ℕ → Type 0
-HasRoomFor pages staged = length staged + unstaged pages staged ≤ FRAMES
+abbrev pub HasFramesFor : List ℕ → List ℕ → Type 0
+HasFramesFor pages staged = length staged + unstaged_count pages staged ≤ FRAMES

@@ -1,6 +1,6 @@
 -- The layouts of store pages: their numbers, and which keys each has. What a slot holds is the same in both.
 use Rattle.std.specs.Prelude.{◌≡◌, ℕ, List, Option, All, length}
-use Rattle.card_types.specs.Represents.{used}
+use Rattle.card_types.specs.Represents.{things_in}
 use Rattle.card_types.specs.declared.tables.KeyRec.{KeyRec}
 use Rattle.rec_store.specs.declared.store_layout.Layout.{Layout}
 use Rattle.rec_store.specs.declared.store_layout.Layout.TheVariants.{Second, Third}
@@ -15,5 +15,5 @@ IsShort key = length key.bytes.items ≡ 16
 
 -- these are keys of a card in that layout: in layout 02 each has 16 bytes, and layout 03 asks nothing of them
 abbrev pub FitsLayout : Layout → List (Option KeyRec) → Type 0
-FitsLayout Second keys = All IsShort (used keys)
+FitsLayout Second keys = All IsShort (things_in keys)
 FitsLayout Third keys = Unit

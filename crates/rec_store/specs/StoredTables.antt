@@ -1,7 +1,7 @@
 -- The tables that store pages hold.
 use Rattle.std.specs.Prelude.{ℕ, ◌+◌, ◌*◌, ◌/◌, ◌<◌, List, Option, All}
 use Rattle.card_check.specs.IsCard.{IsInLoadPages}
-use Rattle.card_types.specs.Represents.{HasSlots, used, held}
+use Rattle.card_types.specs.Represents.{HasSlots, things_in, thing_in}
 use Rattle.card_types.specs.declared.limits.TheConstants.{ENTRIES, FILES, KEYS, OBJECTS}
 use Rattle.card_types.specs.declared.tables.Tables.{Tables}
 use Rattle.rec_store.specs.EntrySlot.{HoldsEntry}
@@ -15,11 +15,11 @@ use Rattle.rec_store.specs.declared.store_layout.Layout.{Layout}
 
 -- the first so many slots hold these things
 abbrev pub AreHeld : {T : Type 0} → (List ℕ → Option T → Type 0) → (ℕ → List ℕ) → ℕ → List (Option T) → Type 0
-AreHeld holds slot count things = (i : ℕ) → i < count → holds (slot i) (held things i)
+AreHeld holds slot count things = (i : ℕ) → i < count → holds (slot i) (thing_in things i)
 
 -- a page holds the things of its slots, as the page with this number of those
 abbrev pub HoldsPage : {T : Type 0} → (List ℕ → Option T → Type 0) → ℕ → List ℕ → ℕ → List (Option T) → Type 0
-HoldsPage holds size page number things = (place : ℕ) → place < 256 / size → holds (slot_at page size place) (held things (number * (256 / size) + place))
+HoldsPage holds size page number things = (place : ℕ) → place < 256 / size → holds (slot_at page size place) (thing_in things (number * (256 / size) + place))
 
 -- the store pages hold these tables, in this layout
 pub record HoldsTables (layout : Layout) (store : ℕ → List ℕ) (tables : Tables) : Type 0 where
@@ -34,5 +34,5 @@ pub record HoldsTables (layout : Layout) (store : ℕ → List ℕ) (tables : Ta
 -- slots have room for all that is in the tables
 pub record AreRoomy (tables : Tables) : Type 0 where
   pub slots : HasSlots tables
-  pub files : All IsInLoadPages (used tables.files.items)
-  pub keys : All IsRoomyKey (used tables.keys.items)
+  pub files : All IsInLoadPages (things_in tables.files.items)
+  pub keys : All IsRoomyKey (things_in tables.keys.items)

@@ -1,7 +1,7 @@
 //! What keeps the key slots of a card.
 
 ghost use Rattle.std.specs.Prelude.{◌≡◌, ◌<◌, List, Option, All, IfSome, length, slice_set};
-ghost use Rattle.rec_store.specs.Prelude.{IsRoomy, IsRoomyKey, SameElse, same_else_on, same_else_self, used};
+ghost use Rattle.rec_store.specs.Prelude.{IsRoomy, IsRoomyKey, SameElse, same_else_on, same_else_self, things_in};
 ghost use Rattle.card_types.specs.declared.limits.TheConstants.{KEYS};
 ghost use Rattle.card_types.specs.declared.tables.KeyRec.{KeyRec as KeyOf};
 
@@ -24,7 +24,7 @@ pub trait RecordKeeper {
     fn keys(&self) -> &[Option<KeyRec>]
         ensures key_slots { result.now ≡ slots self.now }
         ensures count { length result.now ≡ KEYS }
-        ensures counters { All IsRoomyKey (used result.now) };
+        ensures counters { All IsRoomyKey (things_in result.now) };
 
     /// Changes a key slot.
     fn set_key(&mut self, slot: u8, value: Option<KeyRec>)

@@ -1,7 +1,7 @@
 //! A card laid out on a device.
 
 ghost use Rattle.std.specs.Prelude.{◌≡◌, ◌<◌, ◌≤◌, ℕ, All, OnOk, slice_get};
-ghost use Rattle.rec_store.specs.Prelude.{HasCause, HasFirst, HaveRoom, HoldsTables, IsCard, IsInLoadPages, IsRoomyKey, Keeps, Registry, Represents, load_page, store_in, used};
+ghost use Rattle.rec_store.specs.Prelude.{HasCause, HasFirst, HaveRoom, HoldsTables, IsCard, IsInLoadPages, IsRoomyKey, KeepsRegistry, Registry, Represents, load_page, store_in, things_in};
 ghost use Rattle.card_types.specs.declared.tables.Tables.{Tables};
 ghost use Rattle.page_journal.specs.declared.pages.TheConstants.{GATE, STORE_PAGES};
 ghost use Rattle.rec_store.specs.declared.store_layout.Layout.TheVariants.{Third};
@@ -24,12 +24,12 @@ pub fn lay_out<F: Flash>(
     objects: &[Option<Object>],
 ) -> Result<(), FlashFailed>
     requires room { HaveRoom entries.now files.now keys.now objects.now }
-    requires roomy_files { All IsInLoadPages (used files.now) }
-    requires roomy_keys { All IsRoomyKey (used keys.now) }
+    requires roomy_files { All IsInLoadPages (things_in files.now) }
+    requires roomy_keys { All IsRoomyKey (things_in keys.now) }
     // Power lost from then on leaves each registry that tables with these things in their first slots say.
     ensures keeps { F.tells → (tables : Tables) (registry : Registry) → HasFirst tables life entries.now files.now keys.now objects.now
         → IsCard (load_page (F.pages flash.new)) tables → Represents (load_page (F.pages flash.new)) tables registry
-        → OnOk result (Keeps F.Flash flash.new registry) }
+        → OnOk result (KeepsRegistry F.Flash flash.new registry) }
     ensures others { F.tells → (page : ℕ) → GATE < page → slice_get (F.pages flash.new) page ≡ slice_get (F.pages flash.old) page }
     ensures cause { HasCause (F.faults flash.old) (F.faults flash.new) result }
 {
@@ -49,8 +49,8 @@ fn write_tables<F: Flash>(
     keys: &[Option<KeyRec>],
     objects: &[Option<Object>],
 ) -> Result<(), FlashFailed>
-    requires roomy_files { All IsInLoadPages (used files.now) }
-    requires roomy_keys { All IsRoomyKey (used keys.now) }
+    requires roomy_files { All IsInLoadPages (things_in files.now) }
+    requires roomy_keys { All IsRoomyKey (things_in keys.now) }
     ensures held { F.tells → (tables : Tables) → HasFirst tables life entries.now files.now keys.now objects.now
         → OnOk result (HoldsTables Third (store_in (slice_get (F.pages flash.new))) tables) }
     ensures others { F.tells → (page : ℕ) → STORE_PAGES ≤ page → slice_get (F.pages flash.new) page ≡ slice_get (F.pages flash.old) page }

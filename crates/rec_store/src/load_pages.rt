@@ -1,7 +1,7 @@
 //! Load pages.
 
 ghost use Rattle.std.specs.Prelude.{◌≡◌, ◌≢◌, ◌<◌, ℕ, true, OnOk};
-ghost use Rattle.rec_store.specs.Prelude.{HasCause, IsFree, IsLoadPage, IsSpare, Keeps, LeavesOnly, Registry, Reopens, Represents, load_page};
+ghost use Rattle.rec_store.specs.Prelude.{HasCause, IsFree, IsLoadPage, IsSpare, KeepsRegistry, LeavesOnly, Registry, Reopens, Represents, load_page};
 
 use crate::records::Records;
 use flash_core::{Flash, FlashFailed, Page};
@@ -15,10 +15,10 @@ impl<F: Flash> Records<F> {
         ensures same { (self.new.tables ≡ self.old.tables) × (self.new.staged ≡ self.old.staged) × (self.new.live ≡ true) }
         ensures pages { F.tells → F.pages self.new.flash ≡ F.pages self.old.flash }
         // Power lost at any moment leaves the registry.
-        ensures moments { F.tells → (registry : Registry) → Keeps F.Flash self.old.flash registry
+        ensures moments { F.tells → (registry : Registry) → KeepsRegistry F.Flash self.old.flash registry
             → LeavesOnly F.Flash self.old.flash self.new.flash (λ outcome. Reopens outcome registry) }
-        ensures keeps { F.tells → (registry : Registry) → Keeps F.Flash self.old.flash registry
-            → Keeps F.Flash self.new.flash registry }
+        ensures keeps { F.tells → (registry : Registry) → KeepsRegistry F.Flash self.old.flash registry
+            → KeepsRegistry F.Flash self.new.flash registry }
         ensures cause { HasCause (F.faults self.old.flash) (F.faults self.new.flash) result }
     {
         let answer = self.store.read(page, into);
@@ -38,10 +38,10 @@ impl<F: Flash> Records<F> {
             → Represents (load_page (F.pages self.new.flash)) self.old.tables registry }
         ensures same { (self.new.tables ≡ self.old.tables) × (self.new.staged ≡ self.old.staged) × (self.new.live ≡ true) }
         // Where no file on the device has it, power lost at any moment leaves the registry.
-        ensures moments { F.tells → IsSpare F.Flash self.old.flash page → (registry : Registry) → Keeps F.Flash self.old.flash registry
+        ensures moments { F.tells → IsSpare F.Flash self.old.flash page → (registry : Registry) → KeepsRegistry F.Flash self.old.flash registry
             → LeavesOnly F.Flash self.old.flash self.new.flash (λ outcome. Reopens outcome registry) }
-        ensures keeps { F.tells → IsSpare F.Flash self.old.flash page → (registry : Registry) → Keeps F.Flash self.old.flash registry
-            → Keeps F.Flash self.new.flash registry }
+        ensures keeps { F.tells → IsSpare F.Flash self.old.flash page → (registry : Registry) → KeepsRegistry F.Flash self.old.flash registry
+            → KeepsRegistry F.Flash self.new.flash registry }
         // What is spare stays so.
         ensures spare { F.tells → (other : ℕ) → IsSpare F.Flash self.old.flash other → IsSpare F.Flash self.new.flash other }
         ensures cause { HasCause (F.faults self.old.flash) (F.faults self.new.flash) result }

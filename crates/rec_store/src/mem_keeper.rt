@@ -1,7 +1,7 @@
 //! The key slots of a card in memory.
 
 ghost use Rattle.std.specs.Prelude.{◌≡◌, List, Option, None, All, IfOk, length, replicate};
-ghost use Rattle.rec_store.specs.Prelude.{IsRoomyKey, used};
+ghost use Rattle.rec_store.specs.Prelude.{IsRoomyKey, things_in};
 ghost use Rattle.card_types.specs.declared.limits.TheConstants.{KEYS};
 ghost use Rattle.card_types.specs.declared.tables.KeyRec.{KeyRec as KeyOf};
 
@@ -22,7 +22,7 @@ impl Model for MemKeeper {
 
     ghost view = { λ keeper. keeper.keys.items };
 
-    ghost invariant = { λ keeper. (length keeper.keys.items ≡ KEYS) × All IsRoomyKey (used keeper.keys.items) };
+    ghost invariant = { λ keeper. (length keeper.keys.items ≡ KEYS) × All IsRoomyKey (things_in keeper.keys.items) };
 }
 
 impl MemKeeper {

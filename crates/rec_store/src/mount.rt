@@ -1,7 +1,7 @@
 //! Power on: the tables are read from a device.
 
 ghost use Rattle.std.specs.Prelude.{◌≡◌, ◌≤◌, ℕ, List, [], true, All, IfOk, IfErr, OnOk};
-ghost use Rattle.rec_store.specs.Prelude.{Always, AreRoomy, AreSpare, CardFails, HasPages, HasSlots, HasThreeBytes, HasValidJournal, HoldsTables, IsAtRest, IsCard, IsInLayout, IsInOrder, IsRead, IsUnwritten, Keeps, LeavesOnly, Only, OpenFails, Registry, Reopens, ReopensAsOne, Represents, SlotsFail, load_page, opened_cause, store_page, used};
+ghost use Rattle.rec_store.specs.Prelude.{Always, AreRoomy, AreSpare, CardFails, HasPages, HasSlots, HasThreeBytes, HasValidJournal, HoldsTables, IsAtRest, IsCard, IsInLayout, IsInOrder, IsRead, IsUnwritten, KeepsRegistry, LeavesOnly, Only, OpenFails, Registry, Reopens, ReopensAsOne, Represents, SlotsFail, load_page, opened_cause, store_page, things_in};
 ghost use Rattle.card_types.specs.declared.tables.Tables.{Tables as TablesOf};
 ghost use Rattle.rec_store.specs.declared.store_layout.Layout.{Layout as LayoutOf};
 ghost use Rattle.rec_store.specs.declared.store_layout.Layout.TheVariants.{Third};
@@ -27,7 +27,7 @@ impl<F: Flash> Records<F> {
         ensures in_order { IfOk result (λ r. IsInOrder r.tables) }
         // The tables say the registry that the pages reopened as, and power lost leaves it from then on.
         ensures says { F.tells → IfOk result (λ r. (registry : Registry) × Reopens (F.pages flash) registry
-            × Represents (load_page (F.pages r.flash)) r.tables registry × Keeps F.Flash r.flash registry) }
+            × Represents (load_page (F.pages r.flash)) r.tables registry × KeepsRegistry F.Flash r.flash registry) }
         ensures load { F.tells → IfOk result (λ r. load_page (F.pages r.flash) ≡ load_page (F.pages flash)) }
         // What the tables leave free, the device has to spare.
         ensures spare { F.tells → IfOk result (λ r. AreSpare F.Flash r.flash r.tables) }
@@ -84,7 +84,7 @@ fn open<F: Flash>(mut tables: Tables, mut store: PageStore<F>) -> Result<Records
     ensures ready { IfOk result (λ r. (r.staged ≡ []) × (r.live ≡ true)) }
     ensures card { IfOk result (λ r. (page : ℕ → List ℕ) → HasPages page → IsCard page r.tables) }
     ensures says { F.tells → IfOk result (λ r. (registry : Registry) × Reopens (F.pages store.flash) registry
-        × Represents (load_page (F.pages r.flash)) r.tables registry × Keeps F.Flash r.flash registry) }
+        × Represents (load_page (F.pages r.flash)) r.tables registry × KeepsRegistry F.Flash r.flash registry) }
     ensures load { F.tells → IfOk result (λ r. load_page (F.pages r.flash) ≡ load_page (F.pages store.flash)) }
     ensures spare { F.tells → IfOk result (λ r. AreSpare F.Flash r.flash r.tables) }
     ensures raised { F.tells → IfOk result (λ r. Always (F.may_leave r.flash) (IsInLayout Third)) }
@@ -121,7 +121,7 @@ fn read_card<F: Flash>(tables: &mut Tables, store: &mut PageStore<F>) -> Result<
     ensures roomy { OnOk result (AreRoomy tables.new) }
     ensures held { F.tells → OnOk result (HoldsTables Third (store_page (F.pages store.new.flash)) tables.new) }
     ensures says { F.tells → OnOk result ((registry : Registry) × Reopens (F.pages store.old.flash) registry
-        × Represents (load_page (F.pages store.new.flash)) tables.new registry × Keeps F.Flash store.new.flash registry) }
+        × Represents (load_page (F.pages store.new.flash)) tables.new registry × KeepsRegistry F.Flash store.new.flash registry) }
     ensures load { F.tells → OnOk result (load_page (F.pages store.new.flash) ≡ load_page (F.pages store.old.flash)) }
     ensures raised { F.tells → OnOk result (Always (F.may_leave store.new.flash) (IsInLayout Third)) }
     ensures moments { F.tells → (registry : Registry) → Reopens (F.pages store.old.flash) registry
@@ -147,7 +147,7 @@ fn read_tables<F: Flash>(tables: &mut Tables, store: &mut PageStore<F>) -> Resul
     requires none { store.old.staged ≡ [] }
     ensures held { F.tells → IfOk result (λ layout. HoldsTables layout (store_page (F.pages store.old.flash)) tables.new) }
     ensures roomy { OnOk result (AreRoomy tables.new) }
-    ensures entries { OnOk result (All HasThreeBytes (used tables.new.entries.items)) }
+    ensures entries { OnOk result (All HasThreeBytes (things_in tables.new.entries.items)) }
     ensures read { IsRead F.Flash store.old store.new }
     ensures err { IfErr result (SlotsFail F.tells (F.faults store.old.flash) (F.faults store.new.flash)
         ((layout : LayoutOf) (held : TablesOf) → HoldsTables layout (store_page (F.pages store.old.flash)) held → ⊥)) }

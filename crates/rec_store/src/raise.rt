@@ -1,7 +1,7 @@
 //! A card of an earlier layout is brought into the present one.
 
 ghost use Rattle.std.specs.Prelude.{◌≡◌, [], true, IsOk, OnOk};
-ghost use Rattle.rec_store.specs.Prelude.{Always, HasCause, HasValidJournal, HoldsTables, IsInLayout, IsSuperblock, Keeps, LeavesOnly, Only, Registry, Reopens, load_page, store_page};
+ghost use Rattle.rec_store.specs.Prelude.{Always, HasCause, HasValidJournal, HoldsTables, IsInLayout, IsSuperblock, KeepsRegistry, LeavesOnly, Only, Registry, Reopens, load_page, store_page};
 ghost use Rattle.card_types.specs.declared.tables.Tables.{Tables};
 ghost use Rattle.rec_store.specs.declared.store_layout.Layout.TheVariants.{Third};
 
@@ -30,7 +30,7 @@ pub fn raise<F: Flash>(
     ensures raised { F.tells → OnOk result (Always (F.may_leave store.new.flash) (IsInLayout Third)) }
     // The registry is the same at every moment.
     ensures keeps { F.tells → (registry : Registry) → Reopens (F.pages store.old.flash) registry
-        → OnOk result (Keeps F.Flash store.new.flash registry) }
+        → OnOk result (KeepsRegistry F.Flash store.new.flash registry) }
     ensures moments { F.tells → (registry : Registry) → Reopens (F.pages store.old.flash) registry
         → LeavesOnly F.Flash store.old.flash store.new.flash (λ outcome. Reopens outcome registry) }
     ensures idle { layout ≡ Third → IsOk result × (store.new ≡ store.old) }

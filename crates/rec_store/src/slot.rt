@@ -1,7 +1,7 @@
 //! What stands in slots of store pages.
 
 ghost use Rattle.std.specs.Prelude.{◌≡◌, ◌*◌, ◌/◌, ◌<◌, ◌≤◌, ℕ, List, Option, length, slice_index, IfOk, OnErr, IfSome};
-ghost use Rattle.rec_store.specs.Slot.{Holds};
+ghost use Rattle.rec_store.specs.Slot.{SlotHolds};
 
 /// The first byte of a free slot and of a used one.
 pub const FREE: u8 = 0;
@@ -55,9 +55,9 @@ pub trait Slot: Drop {
 /// What a slot holds.
 pub fn read<T: Slot>(slot: &[u8]) -> Result<Option<T>, BadSlot>
     requires { length slot.now ≡ T.SIZE }
-    ensures ok { IfOk result (Holds T.is_in slot.now) }
+    ensures ok { IfOk result (SlotHolds T.is_in slot.now) }
     ensures read { IfOk result (λ thing. IfSome thing T.is_read) }
-    ensures err { OnErr result ((thing : Option T) → Holds T.is_in slot.now thing → ⊥) }
+    ensures err { OnErr result ((thing : Option T) → SlotHolds T.is_in slot.now thing → ⊥) }
 {
     match slot[0] {
         FREE => Ok(None),
@@ -70,7 +70,7 @@ pub fn read<T: Slot>(slot: &[u8]) -> Result<Option<T>, BadSlot>
 pub fn write<T: Slot>(thing: &Option<T>, slot: &mut [u8])
     requires size { length slot.old ≡ T.SIZE }
     requires roomy { IfSome thing.now T.is_roomy }
-    ensures { Holds T.is_in slot.new thing.now }
+    ensures { SlotHolds T.is_in slot.new thing.now }
 {
     match thing {
         Some(thing) => thing.write_used(slot),

@@ -1,7 +1,7 @@
 //! All slots of one kind.
 
 ghost use Rattle.std.specs.Prelude.{◌≡◌, ◌≢◌, ◌⊎◌, ◌+◌, ◌*◌, ◌/◌, ◌%◌, ◌<◌, ◌≤◌, ℕ, [], Option, true, length, slice_get, All, IsSome, IfSome, IfOk, OnOk, OnErr, IfErr};
-ghost use Rattle.rec_store.specs.Prelude.{AreHeld, HasCause, Holds, HoldsPage, IsRead, IsStorePage, Rose, SlotsFail, held, slot_at, slot_from, staged, store_in, store_page, used, with_page};
+ghost use Rattle.rec_store.specs.Prelude.{AreHeld, HasCause, HoldsPage, IsRead, IsStorePage, Rose, SlotHolds, SlotsFail, slot_at, slot_from, staged_at, store_in, store_page, thing_in, things_in, with_page};
 ghost use Rattle.flash_core.specs.declared.page.Page.{Page as PageOf};
 ghost use Rattle.frame_pool.specs.declared.pool.TheConstants.{FRAMES};
 ghost use Rattle.page_journal.specs.declared.pages.TheConstants.{STORE_PAGES};
@@ -14,9 +14,9 @@ use page_journal::PageStore;
 // What the slot at a place of a page holds.
 fn read_at<T: Slot>(bytes: &[u8; 256], place: usize) -> Result<Option<T>, BadSlot>
     requires { place < 256 / T.SIZE }
-    ensures ok { IfOk result (Holds T.is_in (slot_at bytes.now T.SIZE place)) }
+    ensures ok { IfOk result (SlotHolds T.is_in (slot_at bytes.now T.SIZE place)) }
     ensures read_each { IfOk result (λ thing. IfSome thing T.is_read) }
-    ensures err { OnErr result ((thing : Option T) → Holds T.is_in (slot_at bytes.now T.SIZE place) thing → ⊥) }
+    ensures err { OnErr result ((thing : Option T) → SlotHolds T.is_in (slot_at bytes.now T.SIZE place) thing → ⊥) }
 {
     let at = place * T::SIZE;
     read(&bytes[at..at + T::SIZE])
@@ -26,7 +26,7 @@ fn read_at<T: Slot>(bytes: &[u8; 256], place: usize) -> Result<Option<T>, BadSlo
 fn write_at<T: Slot>(thing: &Option<T>, bytes: &mut [u8; 256], place: usize)
     requires place { place < 256 / T.SIZE }
     requires roomy { IfSome thing.now T.is_roomy }
-    ensures put { Holds T.is_in (slot_at bytes.new T.SIZE place) thing.now }
+    ensures put { SlotHolds T.is_in (slot_at bytes.new T.SIZE place) thing.now }
     ensures others { (other : ℕ) → other < 256 / T.SIZE → other ≢ place → slot_at bytes.new T.SIZE other ≡ slot_at bytes.old T.SIZE other }
 {
     let at = place * T::SIZE;
@@ -36,8 +36,8 @@ fn write_at<T: Slot>(thing: &Option<T>, bytes: &mut [u8; 256], place: usize)
 // Makes the slot at a place of a page hold what is in this slot of a list, past whose end all are free.
 fn write_held<T: Slot>(slots: &[Option<T>], slot: usize, bytes: &mut [u8; 256], place: usize)
     requires place { place < 256 / T.SIZE }
-    requires roomy { All T.is_roomy (used slots.now) }
-    ensures put { Holds T.is_in (slot_at bytes.new T.SIZE place) (held slots.now slot) }
+    requires roomy { All T.is_roomy (things_in slots.now) }
+    ensures put { SlotHolds T.is_in (slot_at bytes.new T.SIZE place) (thing_in slots.now slot) }
     ensures others { (other : ℕ) → other < 256 / T.SIZE → other ≢ place → slot_at bytes.new T.SIZE other ≡ slot_at bytes.old T.SIZE other }
 {
     match slots.get(slot) {
@@ -53,10 +53,10 @@ fn read_page<T: Slot>(
     number: usize,
 ) -> Result<(), BadSlot>
     requires { number * (256 / T.SIZE) + 256 / T.SIZE ≤ length slots.old }
-    ensures ok { OnOk result (HoldsPage (Holds T.is_in) T.SIZE bytes.now number slots.new) }
-    ensures read_each { OnOk result ((place : ℕ) → place < 256 / T.SIZE → IfSome (held slots.new (number * (256 / T.SIZE) + place)) T.is_read) }
-    ensures before { (slot : ℕ) → slot < number * (256 / T.SIZE) → held slots.new slot ≡ held slots.old slot }
-    ensures err { OnErr result ((place : ℕ) × (place < 256 / T.SIZE) × ((thing : Option T) → Holds T.is_in (slot_at bytes.now T.SIZE place) thing → ⊥)) }
+    ensures ok { OnOk result (HoldsPage (SlotHolds T.is_in) T.SIZE bytes.now number slots.new) }
+    ensures read_each { OnOk result ((place : ℕ) → place < 256 / T.SIZE → IfSome (thing_in slots.new (number * (256 / T.SIZE) + place)) T.is_read) }
+    ensures before { (slot : ℕ) → slot < number * (256 / T.SIZE) → thing_in slots.new slot ≡ thing_in slots.old slot }
+    ensures err { OnErr result ((place : ℕ) × (place < 256 / T.SIZE) × ((thing : Option T) → SlotHolds T.is_in (slot_at bytes.now T.SIZE place) thing → ⊥)) }
 {
     let each = 256 / T::SIZE;
     for place in 0..each {
@@ -88,11 +88,11 @@ pub fn read_slots<F: Flash, T: Slot>(
     requires none { store.old.staged ≡ [] }
     requires whole { length slots.old % (256 / T.SIZE) ≡ 0 }
     requires range { T.FIRST * (256 / T.SIZE) + length slots.old ≤ STORE_PAGES * (256 / T.SIZE) }
-    ensures ok { F.tells → OnOk result (AreHeld (Holds T.is_in) (slot_from (store_page (F.pages store.old.flash)) T.FIRST T.SIZE) (length slots.new) slots.new) }
-    ensures read_each { OnOk result (All T.is_read (used slots.new)) }
+    ensures ok { F.tells → OnOk result (AreHeld (SlotHolds T.is_in) (slot_from (store_page (F.pages store.old.flash)) T.FIRST T.SIZE) (length slots.new) slots.new) }
+    ensures read_each { OnOk result (All T.is_read (things_in slots.new)) }
     ensures read { IsRead F.Flash store.old store.new }
     ensures err { IfErr result (SlotsFail F.tells (F.faults store.old.flash) (F.faults store.new.flash)
-        ((slot : ℕ) × (slot < length slots.old) × ((thing : Option T) → Holds T.is_in (slot_from (store_page (F.pages store.old.flash)) T.FIRST T.SIZE slot) thing → ⊥))) }
+        ((slot : ℕ) × (slot < length slots.old) × ((thing : Option T) → SlotHolds T.is_in (slot_from (store_page (F.pages store.old.flash)) T.FIRST T.SIZE slot) thing → ⊥))) }
 {
     for number in 0..slots.len() / (256 / T::SIZE) {
         let page = read_store(store, T::FIRST + number as u16)?;
@@ -108,10 +108,10 @@ pub fn stage_slots<F: Flash, T: Slot>(store: &mut PageStore<F>, slots: &[Option<
     requires slot { slot < length slots.now }
     requires whole { length slots.now % (256 / T.SIZE) ≡ 0 }
     requires range { T.FIRST * (256 / T.SIZE) + length slots.now ≤ STORE_PAGES * (256 / T.SIZE) }
-    requires roomy { All T.is_roomy (used slots.now) }
-    requires frame { IsSome (staged store.old.staged (T.FIRST + slot / (256 / T.SIZE))) ⊎ (length store.old.staged < FRAMES) }
+    requires roomy { All T.is_roomy (things_in slots.now) }
+    requires frame { IsSome (staged_at store.old.staged (T.FIRST + slot / (256 / T.SIZE))) ⊎ (length store.old.staged < FRAMES) }
     ensures { (page : PageOf) × (store.new ≡ record store.old { staged = with_page store.old.staged (T.FIRST + slot / (256 / T.SIZE)) page })
-        × HoldsPage (Holds T.is_in) T.SIZE page.bytes (slot / (256 / T.SIZE)) slots.now }
+        × HoldsPage (SlotHolds T.is_in) T.SIZE page.bytes (slot / (256 / T.SIZE)) slots.now }
 {
     let number = usize::from(slot) / (256 / T::SIZE);
     let page = Page {
@@ -123,8 +123,8 @@ pub fn stage_slots<F: Flash, T: Slot>(store: &mut PageStore<F>, slots: &[Option<
 // The page of slots with this number.
 fn page_of<T: Slot>(slots: &[Option<T>], number: usize) -> [u8; 256]
     requires range { IsStorePage number }
-    requires roomy { All T.is_roomy (used slots.now) }
-    ensures { HoldsPage (Holds T.is_in) T.SIZE result number slots.now }
+    requires roomy { All T.is_roomy (things_in slots.now) }
+    ensures { HoldsPage (SlotHolds T.is_in) T.SIZE result number slots.now }
 {
     let mut bytes = [0; 256];
     let each = 256 / T::SIZE;
@@ -142,8 +142,8 @@ pub fn write_slots<F: Flash, T: Slot>(
 ) -> Result<(), FlashFailed>
     requires whole { count % (256 / T.SIZE) ≡ 0 }
     requires range { T.FIRST * (256 / T.SIZE) + count ≤ STORE_PAGES * (256 / T.SIZE) }
-    requires roomy { All T.is_roomy (used slots.now) }
-    ensures held { F.tells → OnOk result (AreHeld (Holds T.is_in) (slot_from (store_in (slice_get (F.pages flash.new))) T.FIRST T.SIZE) count slots.now) }
+    requires roomy { All T.is_roomy (things_in slots.now) }
+    ensures held { F.tells → OnOk result (AreHeld (SlotHolds T.is_in) (slot_from (store_in (slice_get (F.pages flash.new))) T.FIRST T.SIZE) count slots.now) }
     ensures others { F.tells → (page : ℕ) → (page < T.FIRST) ⊎ (STORE_PAGES ≤ page) → slice_get (F.pages flash.new) page ≡ slice_get (F.pages flash.old) page }
     ensures cause { HasCause (F.faults flash.old) (F.faults flash.new) result }
 {

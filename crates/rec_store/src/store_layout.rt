@@ -1,7 +1,7 @@
 //! The layouts of store pages.
 
 ghost use Rattle.std.specs.Prelude.{◌≡◌, ◌↔◌, IfNone, IfSome, IsTrue};
-ghost use Rattle.rec_store.specs.Prelude.{FitsLayout, IsShort, layout_code, used};
+ghost use Rattle.rec_store.specs.Prelude.{FitsLayout, IsShort, layout_code, things_in};
 ghost use Rattle.std.specs.Prelude.{All};
 
 use card_types::KeyRec;
@@ -50,7 +50,7 @@ pub fn fits_layout(layout: Layout, keys: &[Option<KeyRec>]) -> bool
 
 // Whether each key has 16 bytes.
 fn are_short(keys: &[Option<KeyRec>]) -> bool
-    ensures { IsTrue result ↔ All IsShort (used keys.now) }
+    ensures { IsTrue result ↔ All IsShort (things_in keys.now) }
 {
     for slot in keys {
         if !is_short(slot) {

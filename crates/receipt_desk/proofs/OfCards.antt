@@ -14,7 +14,7 @@ use Rattle.tokens_receipts.specs.Receipt.{receipt}
 use Rattle.policy_machine.specs.Admission.{Admitted}
 use Rattle.policy_machine.specs.Delegation.{IsReceipter, unique_data, value_of}
 use Rattle.policy_machine.specs.Management.{acting}
-use Rattle.policy_machine.specs.Receipts.{Confirms, IsReceiptedBy, number_of}
+use Rattle.policy_machine.specs.Receipts.{IsReceiptedBy, ReceiptNames, last_receipt}
 use Rattle.policy_machine.specs.Run.{Command, Input, Reset, Run}
 use Rattle.policy_machine.specs.Sound.{IsSound}
 use Rattle.policy_machine.specs.State.{State, powered_on}
@@ -25,13 +25,13 @@ use Rattle.policy_machine.proofs.NumbersRisen.{confirmed_so, numbers_rise}
 use Rattle.policy_machine.proofs.OneOutcome.{admits_one}
 use Rattle.receipt_desk.specs.InTurn.{JudgedInTurn, Slip, fits_from}
 use Rattle.receipt_desk.specs.Judgement.{Judged}
-use Rattle.receipt_desk.specs.OfCards.{AreSlips, DesksTakeThese, IsSlip, Keeps, ReceiptsFit, ReceiptsOfRunsFit}
+use Rattle.receipt_desk.specs.OfCards.{AreSlips, DesksTakeThese, IsSlip, KeepsReceiptKey, ReceiptsFit, ReceiptsOfRunsFit}
 use Rattle.receipt_desk.specs.declared.verdict.Verdict.TheVariants.{Fits}
 use Rattle.receipt_desk.proofs.InTurn.{first_fits}
 use Rattle.receipt_desk.proofs.Verdicts.{next_of}
 
 -- a card's numbers are of two bytes
-number_short : (registry : Registry) (domain : List ℕ) (number : ℕ) → Well registry → number_of registry domain ≡ Some number → number ≤ RECEIPT_LIMIT
+number_short : (registry : Registry) (domain : List ℕ) (number : ℕ) → Well registry → last_receipt registry domain ≡ Some number → number ≤ RECEIPT_LIMIT
 number_short registry domain number well = by (entry_named registry domain) refl
   where
     by : (o : Option Entry) → entry_named registry domain ≡ o → option_map (λ (entry : Entry). entry.receipts) o ≡ Some number → number ≤ RECEIPT_LIMIT
@@ -46,7 +46,7 @@ pub receipts_fit : ReceiptsFit
 receipts_fit state bytes outcome domain before after sound accepts is was now =
     let same = admits_one state bytes is.admitted accepts.admitted is.admits accepts.admits in
     let at : accepts.admitted.at.registry ≡ state.registry = ap (λ (a : Admitted). a.at.registry) accepts.admits.1.2.3 in
-    let so = confirmed_so state bytes outcome domain before after sound accepts was now is.aids (subst (λ (a : Admitted). Confirms a is.aids) same is.confirms) is.key
+    let so = confirmed_so state bytes outcome domain before after sound accepts was now is.aids (subst (λ (a : Admitted). ReceiptNames a is.aids) same is.confirms) is.key
     (subst (λ (r : Registry). IsReceipter r (acting accepts.admitted) domain is.key) (sym at)
     (subst (λ (a : Admitted). IsReceipter state.registry (acting a) domain is.key) same is.receipter)) in
     let kept = steps_keep_sound state bytes outcome sound (inr (inr accepts)) in
@@ -67,7 +67,7 @@ module _ (domain key unique : List ℕ) where
   -- a slip that is handed in is judged with the key and the unique data
   slip_fits : (state : State) (bytes : List ℕ) (outcome : Outcome) (before next : ℕ) (slip : Slip) → IsSound state → IsSlip state bytes outcome domain slip
       → ((is : IsReceiptedBy state bytes outcome domain) → (is.key.bytes ≡ key) × (unique_data state.registry ≡ unique))
-      → number_of state.registry domain ≡ Some before → number_of outcome.state.registry domain ≡ Some next
+      → last_receipt state.registry domain ≡ Some before → last_receipt outcome.state.registry domain ≡ Some next
       → Judged key unique before slip.reply slip.aids (Fits next)
   slip_fits state bytes outcome before next slip sound slips own was now =
       let accepts = slips.0 in
@@ -78,21 +78,21 @@ module _ (domain key unique : List ℕ) where
       subst (λ (s : Slip). Judged key unique before s.reply s.aids (Fits next)) (sym slips.2) of
 
   run_fits : (state last : State) (inputs : List Input) (outcomes : List Outcome) (slips : List Slip) (before after : ℕ)
-      → IsSound state → Run state inputs outcomes last → Keeps domain key unique state inputs outcomes → AreSlips domain state inputs outcomes slips
-      → number_of state.registry domain ≡ Some before → number_of last.registry domain ≡ Some after → Comes state slips before after
+      → IsSound state → Run state inputs outcomes last → KeepsReceiptKey domain key unique state inputs outcomes → AreSlips domain state inputs outcomes slips
+      → last_receipt state.registry domain ≡ Some before → last_receipt last.registry domain ≡ Some after → Comes state slips before after
   run_fits state last [] outcomes slips before after sound run keeps are was now =
-      let same : after ≡ before = some_same after before (sym now ∙ ap (λ (s : State). number_of s.registry domain) run.1 ∙ was) in
+      let same : after ≡ before = some_same after before (sym now ∙ ap (λ (s : State). last_receipt s.registry domain) run.1 ∙ was) in
       subst (λ (s : List Slip). Comes state s before after) (sym are) ((refl, same), omega (arith, same))
   run_fits state last (Reset ∷ inputs) outcomes slips before after sound run keeps are was now =
       run_fits (powered_on state.registry) last inputs outcomes slips before after (starts_sound state.registry sound.well sound.ascending) run keeps are was now
   run_fits state last (Command bytes ∷ inputs) [] slips before after sound run keeps are was now = absurd run
   run_fits state last (Command bytes ∷ inputs) (outcome ∷ outcomes) [] before after sound run keeps are was now =
-      let next = there (number_of outcome.state.registry domain) keeps.0 in
+      let next = there (last_receipt outcome.state.registry domain) keeps.0 in
       let stays = (numbers_rise state bytes outcome sound run.0 domain before next.0 was next.1).1 are.0 in
       let kept = steps_keep_sound state bytes outcome sound run.0 in
       run_fits outcome.state last inputs outcomes [] before after kept run.1 keeps.2 are.1 (next.1 ∙ ap Some stays) now
   run_fits state last (Command bytes ∷ inputs) (outcome ∷ outcomes) (slip ∷ slips) before after sound run keeps (inl are) was now =
-      let next = there (number_of outcome.state.registry domain) keeps.0 in
+      let next = there (last_receipt outcome.state.registry domain) keeps.0 in
       let rises = ((numbers_rise state bytes outcome sound run.0 domain before next.0 was next.1).0 are.0.1).0 in
       let kept = steps_keep_sound state bytes outcome sound run.0 in
       let here = slip_fits state bytes outcome before next.0 slip sound are.0 keeps.1 was next.1 in
@@ -100,7 +100,7 @@ module _ (domain key unique : List ℕ) where
       let many = later.1 in
       (first_fits key unique before next.0 after slip slips rises here later.0, omega (arith, rises, many))
   run_fits state last (Command bytes ∷ inputs) (outcome ∷ outcomes) (slip ∷ slips) before after sound run keeps (inr are) was now =
-      let next = there (number_of outcome.state.registry domain) keeps.0 in
+      let next = there (last_receipt outcome.state.registry domain) keeps.0 in
       let stays = (numbers_rise state bytes outcome sound run.0 domain before next.0 was next.1).1 are.0 in
       let kept = steps_keep_sound state bytes outcome sound run.0 in
       run_fits outcome.state last inputs outcomes (slip ∷ slips) before after kept run.1 keeps.2 are.1 (next.1 ∙ ap Some stays) now

@@ -8,14 +8,14 @@ use Rattle.card_types.specs.declared.limits.TheConstants.{RECEIPT_LIMIT}
 use Rattle.cmac_kdf.specs.Cmac.{cmac}
 use Rattle.cmac_kdf.proofs.CmacLemmas.{cmac_is_block}
 use Rattle.tokens_receipts.specs.Receipt.{receipt, signed_by_receipt}
-use Rattle.receipt_desk.specs.Judgement.{Confirmation, Judged, Spells, next_number, number_in}
+use Rattle.receipt_desk.specs.Judgement.{Confirmation, Judged, Spells, next_receipt, number_in}
 use Rattle.receipt_desk.specs.Laws.{OnePlace, OneVerdict, OtherMacsAreNoticed}
 use Rattle.receipt_desk.specs.declared.verdict.Verdict.{Verdict}
 use Rattle.receipt_desk.specs.declared.verdict.Verdict.TheVariants.{Fits, Form, Unique, Number, Mac}
 use Rattle.receipt_desk.proofs.Fields.{one_spelling}
 
 -- the next number is one higher, and a number of two bytes
-pub next_is : (last number : ℕ) → next_number last ≡ Some number → (number ≡ last + 1) × (number ≤ RECEIPT_LIMIT)
+pub next_is : (last number : ℕ) → next_receipt last ≡ Some number → (number ≡ last + 1) × (number ≤ RECEIPT_LIMIT)
 next_is last number = by (nat_lt last RECEIPT_LIMIT) refl
   where
     by : (b : Bool) → nat_lt last RECEIPT_LIMIT ≡ b → (if b then Some (last + 1) else None) ≡ Some number → (number ≡ last + 1) × (number ≤ RECEIPT_LIMIT)
@@ -25,7 +25,7 @@ next_is last number = by (nat_lt last RECEIPT_LIMIT) refl
         (sym same, omega (arith, same, below)))
     by false lower is = (let clash : ⊥ = cc in absurd clash)
 
-pub next_of : (last : ℕ) → last + 1 ≤ RECEIPT_LIMIT → next_number last ≡ Some (last + 1)
+pub next_of : (last : ℕ) → last + 1 ≤ RECEIPT_LIMIT → next_receipt last ≡ Some (last + 1)
 next_of last within = ap (λ (b : Bool). if b then Some (last + 1) else None) (lt-ltb last RECEIPT_LIMIT (omega (arith, within)))
 
 -- what a receipt spells

@@ -1,7 +1,7 @@
 -- What a desk does with its lines, one after the other.
 use Rattle.std.specs.Prelude.{◌≡◌, ℕ, List, [], ◌∷◌, ◌||◌, Bool, true, false, Some}
 use Rattle.line_runs.specs.Taker.{Taker, faultless}
-use Rattle.script_tool.specs.Tokens.{key_of}
+use Rattle.script_tool.specs.Tokens.{sized_key}
 use Rattle.tokens_receipts.specs.Token.{token}
 use Rattle.receipt_desk.specs.Judgement.{DeskState, Judged, last_after, new_desk}
 use Rattle.receipt_desk.specs.Lines.{SaysDesk}
@@ -41,7 +41,7 @@ with_verdict at verdict = record {
 -- What a line says leads from a state to another, and this is written. Tokens and verdicts need a key.
 abbrev pub Does : AuditState → DeskLine → AuditState → List ℕ → Type 0
 Does at Nothing next said = (next ≡ at) × (said ≡ [])
-Does at (Key key) next said = (next ≡ record at { desk = record at.desk { key = Some (key_of key) } }) × (said ≡ [])
+Does at (Key key) next said = (next ≡ record at { desk = record at.desk { key = Some (sized_key key) } }) × (said ≡ [])
 Does at (Unique bytes) next said = (next ≡ record at { desk = record at.desk { unique = bytes.items } }) × (said ≡ [])
 Does at (From number) next said = (next ≡ record at { desk = record at.desk { last = number } }) × (said ≡ [])
 Does at (Sign s) next said = (key : List ℕ) × (at.desk.key ≡ Some key) × (next ≡ at) × (said ≡ token_line (token key s.p1 s.p2 s.before.items))

@@ -33,12 +33,12 @@ abbrev pub number_in : Confirmation → ℕ
 number_in confirmation = from_be_bytes w16 confirmation.number
 
 -- the number after the last one, if there is one
-abbrev pub next_number : ℕ → Option ℕ
-next_number last = if nat_lt last RECEIPT_LIMIT then Some (last + 1) else None
+abbrev pub next_receipt : ℕ → Option ℕ
+next_receipt last = if nat_lt last RECEIPT_LIMIT then Some (last + 1) else None
 
 -- the data field has the form of a receipted one, and this holds of what it has
-abbrev pub Confirms : List ℕ → (Confirmation → Type 0) → Type 0
-Confirms reply holds = (confirmation : Confirmation) × Spells confirmation reply × holds confirmation
+abbrev pub ForConfirmation : List ℕ → (Confirmation → Type 0) → Type 0
+ForConfirmation reply holds = (confirmation : Confirmation) × Spells confirmation reply × holds confirmation
 
 -- The verdict on a data field, under a key, with the card's unique data and the number of the last receipt, where the command was about
 -- these AIDs.
@@ -46,15 +46,15 @@ abbrev pub Judged : (key unique : List ℕ) (last : ℕ) (reply : List ℕ) (aid
 -- it has another form than a receipt
 Judged key unique last reply aids Form = (confirmation : Confirmation) → Spells confirmation reply → ⊥
 -- it is of another card
-Judged key unique last reply aids Unique = Confirms reply (λ confirmation. confirmation.unique ≢ unique)
+Judged key unique last reply aids Unique = ForConfirmation reply (λ confirmation. confirmation.unique ≢ unique)
 -- its number is not the next one, or there is no next one
-Judged key unique last reply aids (Number have want) = Confirms reply (λ confirmation.
-    (confirmation.unique ≡ unique) × (have ≡ number_in confirmation) × (want ≡ next_number last) × (want ≢ Some have))
+Judged key unique last reply aids (Number have want) = ForConfirmation reply (λ confirmation.
+    (confirmation.unique ≡ unique) × (have ≡ number_in confirmation) × (want ≡ next_receipt last) × (want ≢ Some have))
 -- all that is right, and it is not the receipt
-Judged key unique last reply aids Mac = Confirms reply (λ confirmation.
-    (confirmation.unique ≡ unique) × (next_number last ≡ Some (number_in confirmation)) × (reply ≢ receipt key (number_in confirmation) unique aids))
+Judged key unique last reply aids Mac = ForConfirmation reply (λ confirmation.
+    (confirmation.unique ≡ unique) × (next_receipt last ≡ Some (number_in confirmation)) × (reply ≢ receipt key (number_in confirmation) unique aids))
 -- it is the receipt with the next number
-Judged key unique last reply aids (Fits number) = (next_number last ≡ Some number) × (reply ≡ receipt key number unique aids)
+Judged key unique last reply aids (Fits number) = (next_receipt last ≡ Some number) × (reply ≡ receipt key number unique aids)
 
 -- the number of the last receipt after a verdict: one that fits is the last one then
 abbrev pub last_after : Verdict → ℕ → ℕ

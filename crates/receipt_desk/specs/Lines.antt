@@ -22,13 +22,13 @@ unfoldable pub SpellsSomeOrNone : ℕ → List ℕ → List ℕ → Type 0
 SpellsSomeOrNone most word bytes = ((word ≡ codes "-") × (bytes ≡ [])) ⊎ SpellsUpTo most word bytes
 
 -- the verb of each line that says something
-abbrev pub verb_of : DeskLine → List ℕ
-verb_of Nothing = []
-verb_of (Key key) = codes "key"
-verb_of (Unique bytes) = codes "unique"
-verb_of (From number) = codes "from"
-verb_of (Sign s) = codes "sign"
-verb_of (Receipt r) = codes "receipt"
+abbrev pub line_verb : DeskLine → List ℕ
+line_verb Nothing = []
+line_verb (Key key) = codes "key"
+line_verb (Unique bytes) = codes "unique"
+line_verb (From number) = codes "from"
+line_verb (Sign s) = codes "sign"
+line_verb (Receipt r) = codes "receipt"
 
 -- `key HEX`: the key of later tokens and receipts, of AES-128, AES-192 or AES-256
 abbrev pub SaysKey : List (List ℕ) → OfSize (List ℕ) (List ℕ) (List ℕ) → Type 0
@@ -63,18 +63,18 @@ SaysReceipt (word ∷ aids) r = SpellsUpTo 48 word r.reply.items × SpellAids ai
 SaysReceipt _ r = ⊥
 
 -- what the words after the verb say
-abbrev pub SayAfterVerb : List (List ℕ) → DeskLine → Type 0
-SayAfterVerb words Nothing = ⊥
-SayAfterVerb words (Key key) = SaysKey words key
-SayAfterVerb words (Unique bytes) = SaysUnique words bytes.items
-SayAfterVerb words (From number) = SaysFrom words number
-SayAfterVerb words (Sign s) = SaysSign words s
-SayAfterVerb words (Receipt r) = SaysReceipt words r
+abbrev pub SayToDesk : List (List ℕ) → DeskLine → Type 0
+SayToDesk words Nothing = ⊥
+SayToDesk words (Key key) = SaysKey words key
+SayToDesk words (Unique bytes) = SaysUnique words bytes.items
+SayToDesk words (From number) = SaysFrom words number
+SayToDesk words (Sign s) = SaysSign words s
+SayToDesk words (Receipt r) = SaysReceipt words r
 
 -- what the words of a line say that says something
 abbrev pub SaysWords : List (List ℕ) → DeskLine → Type 0
 SaysWords words Nothing = ⊥
-SaysWords (verb ∷ words) line = (verb ≡ verb_of line) × SayAfterVerb words line
+SaysWords (verb ∷ words) line = (verb ≡ line_verb line) × SayToDesk words line
 SaysWords [] line = ⊥
 
 -- a text is blank or a comment, or its words say something

@@ -3,7 +3,7 @@ use Rattle.std.specs.Prelude.{◌≡◌, ◌⊎◌, ℕ, ◌+◌, ◌≤◌, Lis
 use Rattle.card_types.specs.Registry.{Key, Registry, key_named}
 use Rattle.card_types.specs.Well.{IsKeyLength, Well}
 use Rattle.policy_machine.specs.Delegation.{unique_data}
-use Rattle.policy_machine.specs.Receipts.{IsReceiptedBy, number_of}
+use Rattle.policy_machine.specs.Receipts.{IsReceiptedBy, last_receipt}
 use Rattle.policy_machine.specs.Run.{Command, Input, Reset, Run}
 use Rattle.policy_machine.specs.Sound.{IsSound}
 use Rattle.policy_machine.specs.State.{State, powered_on}
@@ -19,7 +19,7 @@ abbrev pub ReceiptsFit : Type 0
 ReceiptsFit =
     (state : State) (bytes : List ℕ) (outcome : Outcome) (domain : List ℕ) (before after : ℕ)
     → IsSound state → (accepts : IsAccepted state bytes outcome) → (is : IsReceiptedBy state bytes outcome domain)
-    → number_of state.registry domain ≡ Some before → number_of outcome.state.registry domain ≡ Some after
+    → last_receipt state.registry domain ≡ Some before → last_receipt outcome.state.registry domain ≡ Some after
     → Judged is.key.bytes (unique_data state.registry) before accepts.done.body is.aids (Fits after)
 
 -- a desk takes any key that a domain of a card has, and the unique data of the card
@@ -46,20 +46,20 @@ AreSlips domain state (Command bytes ∷ inputs) (outcome ∷ outcomes) (slip �
     ⊎ ((IsReceiptedBy state bytes outcome domain → ⊥) × AreSlips domain outcome.state inputs outcomes (slip ∷ slips))
 
 -- the domain stays on the card, and at each command that it confirms its receipt key and the card's unique data are these
-abbrev pub Keeps : (domain key unique : List ℕ) → State → List Input → List Outcome → Type 0
-Keeps domain key unique state [] outcomes = Unit {0}
-Keeps domain key unique state (Reset ∷ inputs) outcomes = Keeps domain key unique (powered_on state.registry) inputs outcomes
-Keeps domain key unique state (Command bytes ∷ inputs) [] = Unit {0}
-Keeps domain key unique state (Command bytes ∷ inputs) (outcome ∷ outcomes) =
-    IsSome (number_of outcome.state.registry domain)
+abbrev pub KeepsReceiptKey : (domain key unique : List ℕ) → State → List Input → List Outcome → Type 0
+KeepsReceiptKey domain key unique state [] outcomes = Unit {0}
+KeepsReceiptKey domain key unique state (Reset ∷ inputs) outcomes = KeepsReceiptKey domain key unique (powered_on state.registry) inputs outcomes
+KeepsReceiptKey domain key unique state (Command bytes ∷ inputs) [] = Unit {0}
+KeepsReceiptKey domain key unique state (Command bytes ∷ inputs) (outcome ∷ outcomes) =
+    IsSome (last_receipt outcome.state.registry domain)
     × ((is : IsReceiptedBy state bytes outcome domain) → (is.key.bytes ≡ key) × (unique_data state.registry ≡ unique))
-    × Keeps domain key unique outcome.state inputs outcomes
+    × KeepsReceiptKey domain key unique outcome.state inputs outcomes
 
 -- Whoever lays all receipts of a domain before a desk, in the order of a run, is told that each fits. The desk begins with the domain's
 -- number before the run, and ends with its number after the run.
 abbrev pub ReceiptsOfRunsFit : Type 0
 ReceiptsOfRunsFit =
     (state last : State) (inputs : List Input) (outcomes : List Outcome) (domain key unique : List ℕ) (slips : List Slip) (before after : ℕ)
-    → IsSound state → Run state inputs outcomes last → Keeps domain key unique state inputs outcomes → AreSlips domain state inputs outcomes slips
-    → number_of state.registry domain ≡ Some before → number_of last.registry domain ≡ Some after
+    → IsSound state → Run state inputs outcomes last → KeepsReceiptKey domain key unique state inputs outcomes → AreSlips domain state inputs outcomes slips
+    → last_receipt state.registry domain ≡ Some before → last_receipt last.registry domain ≡ Some after
     → JudgedInTurn key unique before slips (fits_from before slips) after × (after ≡ before + length slips)

@@ -2,7 +2,7 @@
 
 ghost use Rattle.receipt_desk.specs.Lines.{SpellAids};
 ghost use Rattle.receipt_desk.specs.declared.aids.Aids.{Aids};
-ghost use Rattle.script_tool.specs.Words.{Reads, left};
+ghost use Rattle.script_tool.specs.Words.{Reads, remaining_words};
 
 use card_types::Aid;
 use script_tool::values::aid;
@@ -17,14 +17,14 @@ pub enum Aids {
 }
 
 fn one(words: Words<'_>) -> Option<Aid>
-    ensures { Reads (λ aid. SpellAids (left words.entry) (Aids.One aid)) result }
+    ensures { Reads (λ aid. SpellAids (remaining_words words.entry) (Aids.One aid)) result }
 {
     let only = aid(words.last()?)?;
     Some(only)
 }
 
 fn two(mut words: Words<'_>) -> Option<(Aid, Aid)>
-    ensures { Reads (λ aids. SpellAids (left words.entry) (Aids.Two aids.0 aids.1)) result }
+    ensures { Reads (λ aids. SpellAids (remaining_words words.entry) (Aids.Two aids.0 aids.1)) result }
 {
     let first = aid(words.take()?)?;
     let second = aid(words.last()?)?;
@@ -32,7 +32,7 @@ fn two(mut words: Words<'_>) -> Option<(Aid, Aid)>
 }
 
 fn three(mut words: Words<'_>) -> Option<(Aid, Aid, Aid)>
-    ensures { Reads (λ aids. SpellAids (left words.entry) (Aids.Three aids.0 aids.1 aids.2)) result }
+    ensures { Reads (λ aids. SpellAids (remaining_words words.entry) (Aids.Three aids.0 aids.1 aids.2)) result }
 {
     let first = aid(words.take()?)?;
     let second = aid(words.take()?)?;
@@ -42,7 +42,7 @@ fn three(mut words: Words<'_>) -> Option<(Aid, Aid, Aid)>
 
 /// Reads `AID`, `AID AID` or `AID AID AID`.
 pub fn read(words: Words<'_>) -> Option<Aids>
-    ensures { Reads (SpellAids (left words.entry)) result }
+    ensures { Reads (SpellAids (remaining_words words.entry)) result }
 {
     if let Some(only) = one(words) {
         return Some(Aids::One(only));

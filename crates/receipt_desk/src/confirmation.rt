@@ -1,7 +1,7 @@
 //! The data field of a reply that confirms a command.
 
 ghost use Rattle.std.specs.Prelude.{◌≡◌, ◌++◌, ℕ, List, MatchOption};
-ghost use Rattle.receipt_desk.specs.Judgement.{Confirmation, Confirms, Spells, number_in};
+ghost use Rattle.receipt_desk.specs.Judgement.{Confirmation, ForConfirmation, Spells, number_in};
 ghost use Rattle.tokens_receipts.specs.Receipt.{with_length};
 
 /// The number and the card's unique data in a data field that has the form of a receipted one.
@@ -35,7 +35,7 @@ fn whole_field(bytes: &[u8]) -> Option<&[u8]>
 /// What a data field says, where it has the form of a receipted one.
 pub fn read(reply: &[u8]) -> Option<Confirmed<'_>>
     ensures { MatchOption result ((confirmation : Confirmation) → Spells confirmation reply.now → ⊥)
-        (λ said. Confirms reply.now (λ confirmation. (confirmation.unique ≡ said.unique.now) × (number_in confirmation ≡ said.number))) }
+        (λ said. ForConfirmation reply.now (λ confirmation. (confirmation.unique ≡ said.unique.now) × (number_in confirmation ≡ said.number))) }
 {
     let confirmation = whole_field(reply)?;
     let (code, rest) = first_field(confirmation)?;

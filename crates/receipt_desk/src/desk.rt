@@ -6,7 +6,7 @@ ghost use Rattle.card_types.specs.Well.{IsKeyLength};
 ghost use Rattle.receipt_desk.specs.Judgement.{Judged, last_after, new_desk};
 ghost use Rattle.receipt_desk.specs.Judgement as judgement;
 ghost use Rattle.receipt_desk.specs.Signing.{Signs};
-ghost use Rattle.script_tool.specs.Tokens.{key_of};
+ghost use Rattle.script_tool.specs.Tokens.{sized_key};
 ghost use Rattle.tokens_receipts.specs.Receipt.{aids_of};
 
 use crate::confirmation;
@@ -28,16 +28,16 @@ pub struct Desk {
 impl Model for Desk {
     ghost use Rattle.std.specs.Option.{option_map};
     ghost use Rattle.receipt_desk.specs.Judgement.{DeskState};
-    ghost use Rattle.script_tool.specs.Tokens.{key_of};
+    ghost use Rattle.script_tool.specs.Tokens.{sized_key};
 
     ghost Value = { DeskState };
 
-    ghost view = { λ s. record { key = option_map key_of s.key; unique = s.unique.items; last = s.last } };
+    ghost view = { λ s. record { key = option_map sized_key s.key; unique = s.unique.items; last = s.last } };
 }
 
 // The number after this one, if there is one.
 fn next_number(last: u16) -> Option<u16>
-    ensures { result ≡ judgement.next_number last }
+    ensures { result ≡ judgement.next_receipt last }
 {
     if last < RECEIPT_LIMIT {
         Some(last + 1)
@@ -76,7 +76,7 @@ impl Desk {
 
     /// Takes a key of AES in place of the one that it has.
     pub(crate) fn put_key(&mut self, key: Key)
-        ensures { self.new ≡ record self.old { key = Some (key_of key) } }
+        ensures { self.new ≡ record self.old { key = Some (sized_key key) } }
     {
         self.key = Some(made(&key));
     }

@@ -3,7 +3,7 @@
 ghost use Rattle.std.specs.Prelude.{◌≡◌, ◌↔◌, ◌≤◌, IsTrue, MatchOption, length};
 ghost use Rattle.std.specs.Option.{option_copied};
 ghost use Rattle.card_types.specs.Well.{IsKeyLength};
-ghost use Rattle.script_tool.specs.Tokens.{key_of};
+ghost use Rattle.script_tool.specs.Tokens.{sized_key};
 ghost use Rattle.tokens_receipts.specs.Receipt as confirmed;
 ghost use Rattle.tokens_receipts.specs.Receipt.{aids_of};
 ghost use Rattle.tokens_receipts.specs.Token as approved;
@@ -20,7 +20,7 @@ pub type MadeKey = OfSize<CmacKey<SealingAes128>, CmacKey<SealingAes192>, CmacKe
 
 /// The key with these bytes.
 pub fn key_from(bytes: &[u8]) -> Option<Key>
-    ensures { MatchOption result (IsKeyLength (length bytes.now) → ⊥) (λ key. key_of key ≡ bytes.now) }
+    ensures { MatchOption result (IsKeyLength (length bytes.now) → ⊥) (λ key. sized_key key ≡ bytes.now) }
 {
     match bytes.len() {
         16 => Some(OfSize::Aes128(bytes.try_into().ok()?)),
@@ -32,7 +32,7 @@ pub fn key_from(bytes: &[u8]) -> Option<Key>
 
 /// Makes the key schedule and the subkeys.
 pub fn made(key: &Key) -> MadeKey
-    ensures { key_of result ≡ key_of key.now }
+    ensures { sized_key result ≡ sized_key key.now }
 {
     match key {
         OfSize::Aes128(key) => OfSize::Aes128(CmacKey::new(SealingAes128::from_key(key))),
@@ -44,7 +44,7 @@ pub fn made(key: &Key) -> MadeKey
 /// The token under a key.
 pub fn token_under(key: &MadeKey, p1: u8, p2: u8, before: &[u8]) -> [u8; 16]
     requires short { length before.now ≤ 255 }
-    ensures { result ≡ approved.token (key_of key.now) p1 p2 before.now }
+    ensures { result ≡ approved.token (sized_key key.now) p1 p2 before.now }
 {
     match key {
         OfSize::Aes128(key) => tokens_receipts::token_under(key, p1, p2, before),
@@ -64,7 +64,7 @@ pub fn receipt_fits(
     given: &[u8],
 ) -> bool
     requires short { length unique.now ≤ 20 }
-    ensures { IsTrue result ↔ (given.now ≡ confirmed.receipt (key_of key.now) number unique.now
+    ensures { IsTrue result ↔ (given.now ≡ confirmed.receipt (sized_key key.now) number unique.now
         (aids_of first.now (option_copied second.entry) (option_copied third.entry))) }
 {
     let mut wanted = ArrayVec::new();

@@ -1,7 +1,7 @@
 //! What a line says to a desk.
 
 ghost use Rattle.receipt_desk.specs.Lines.{SaysDesk, SaysFrom, SaysKey, SaysUnique, SaysWords, SpellsNumber};
-ghost use Rattle.script_tool.specs.Words.{Reads, left};
+ghost use Rattle.script_tool.specs.Words.{Reads, remaining_words};
 
 use crate::receipted::{self, Receipted};
 use crate::signing::{self, Signing, bytes_or_none};
@@ -43,7 +43,7 @@ fn number(word: &[u8]) -> Option<u16>
 
 // The key of `key HEX`.
 fn read_key(words: Words<'_>) -> Option<Key>
-    ensures { Reads (SaysKey (left words.entry)) result }
+    ensures { Reads (SaysKey (remaining_words words.entry)) result }
 {
     let key = key(words.last()?)?;
     Some(key)
@@ -51,7 +51,7 @@ fn read_key(words: Words<'_>) -> Option<Key>
 
 // The bytes of `unique HEX` or `unique -`.
 fn read_unique(words: Words<'_>) -> Option<ArrayVec<u8, 20>>
-    ensures { Reads (λ bytes. SaysUnique (left words.entry) bytes.items) result }
+    ensures { Reads (λ bytes. SaysUnique (remaining_words words.entry) bytes.items) result }
 {
     let bytes = bytes_or_none(words.last()?)?;
     Some(bytes)
@@ -59,7 +59,7 @@ fn read_unique(words: Words<'_>) -> Option<ArrayVec<u8, 20>>
 
 // The number of `from NNNN`.
 fn read_from(words: Words<'_>) -> Option<u16>
-    ensures { Reads (SaysFrom (left words.entry)) result }
+    ensures { Reads (SaysFrom (remaining_words words.entry)) result }
 {
     let number = number(words.last()?)?;
     Some(number)
@@ -67,7 +67,7 @@ fn read_from(words: Words<'_>) -> Option<u16>
 
 // What the words of a line say that says something. The first one, the verb, tells which form it may have.
 fn read_words(mut words: Words<'_>) -> Option<DeskLine>
-    ensures { Reads (SaysWords (left words.entry)) result }
+    ensures { Reads (SaysWords (remaining_words words.entry)) result }
 {
     let verb = words.take()?;
     if verb == b"receipt".as_slice() {

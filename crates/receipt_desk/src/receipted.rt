@@ -1,7 +1,7 @@
 //! Receipts to judge.
 
 ghost use Rattle.receipt_desk.specs.Lines.{SaysReceipt};
-ghost use Rattle.script_tool.specs.Words.{Reads, left};
+ghost use Rattle.script_tool.specs.Words.{Reads, remaining_words};
 
 use crate::aids::{self, Aids};
 use arrayvec::ArrayVec;
@@ -17,7 +17,7 @@ pub struct Receipted {
 
 /// Reads `HEX AID [AID [AID]]`, the words after `receipt`.
 pub fn read(mut words: Words<'_>) -> Option<Receipted>
-    ensures { Reads (SaysReceipt (left words.entry)) result }
+    ensures { Reads (SaysReceipt (remaining_words words.entry)) result }
 {
     let reply = bytes(words.take()?)?;
     let aids = aids::read(words)?;

@@ -1,7 +1,7 @@
 //! Commands to approve.
 
 ghost use Rattle.receipt_desk.specs.Lines.{SaysSign, SpellsSomeOrNone};
-ghost use Rattle.script_tool.specs.Words.{Reads, left};
+ghost use Rattle.script_tool.specs.Words.{Reads, remaining_words};
 
 use arrayvec::ArrayVec;
 use script_tool::values::{byte, bytes};
@@ -28,7 +28,7 @@ pub fn bytes_or_none<const N: usize>(word: &[u8]) -> Option<ArrayVec<u8, N>>
 
 /// Reads `P1 P2 HEX` or `P1 P2 -`, the words after `sign`.
 pub fn read(mut words: Words<'_>) -> Option<Signing>
-    ensures { Reads (SaysSign (left words.entry)) result }
+    ensures { Reads (SaysSign (remaining_words words.entry)) result }
 {
     let p1 = byte(words.take()?)?;
     let p2 = byte(words.take()?)?;

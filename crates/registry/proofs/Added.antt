@@ -8,7 +8,7 @@ use Rattle.card_types.specs.RegistryChange.{IsChanged, IsEntryAdded, IsFileAdded
 use Rattle.card_types.specs.Search.{IsFirstFree, NoneFree}
 use Rattle.card_types.specs.Found.{aid_of}
 use Rattle.card_types.specs.Registry as registry
-use Rattle.card_types.specs.Represents.{Represents, entry_of, file_of, held}
+use Rattle.card_types.specs.Represents.{Represents, entry_of, file_of, thing_in}
 use Rattle.card_types.specs.Well.{Well}
 use Rattle.card_types.specs.declared.found.Found.{Found}
 use Rattle.card_types.specs.declared.found.Found.TheVariants as found
@@ -21,7 +21,7 @@ use Rattle.card_types.proofs.ChangedFiles.{file_changed, keeps_files_put}
 use Rattle.card_types.proofs.FoundNames.{found_entry_named, found_file_named, none_found_none_named}
 use Rattle.card_types.proofs.LeastOfList.{none_fits, sorted_by_name}
 use Rattle.card_types.proofs.SameAid.{aid_equal_same, same_aid_decides}
-use Rattle.registry.specs.Adding.{AddsEntry, AddsFile, IsTaken, NoneHas, PlaceFails}
+use Rattle.registry.specs.Adding.{AddsEntry, AddsFile, IsAidTaken, NoneHas, PlaceFails}
 use Rattle.registry.specs.declared.refusal.AddRefusal.{AddRefusal}
 use Rattle.registry.specs.declared.refusal.AddRefusal.TheVariants.{Taken, Full}
 
@@ -32,19 +32,19 @@ first_free_of {T = T} slots_of before tables slots is lent slot = subst (λ (s :
 
 module _ (page : ℕ → List ℕ) (before : Tables) (said : registry.Registry) (says : Represents page before said) where
   -- what is in a slot is there by its name
-  pub taken_by : (thing : Found) (aid : List ℕ) → aid_of before thing ≡ Some aid → IsTaken said aid
+  pub taken_by : (thing : Found) (aid : List ℕ) → aid_of before thing ≡ Some aid → IsAidTaken said aid
   taken_by (found.Entry slot) aid at = inl (subst IsSome (sym (found_entry_named page before said says slot aid at).2) refl)
   taken_by (found.File slot) aid at = inr (subst IsSome (sym (found_file_named page before said says slot aid at).2) refl)
 
   -- nothing is there by a name that no slot has
-  pub not_taken : (aid : List ℕ) → NoneHas before aid → IsTaken said aid → ⊥
+  pub not_taken : (aid : List ℕ) → NoneHas before aid → IsAidTaken said aid → ⊥
   not_taken aid none (inl there) = (let gone = (none_found_none_named page before said says aid none).0 in let some = subst IsSome gone there in cc)
   not_taken aid none (inr there) = (let gone = (none_found_none_named page before said says aid none).1 in let some = subst IsSome gone there in cc)
 
   module _ (aid : List ℕ) (full : Type 0) where
     -- the answer says that the AID is taken, or that it is not and all is full, exactly where that is so
     abbrev pub Judged : Result ℕ AddRefusal → Type 0
-    Judged result = (result ≡ Err Taken ↔ IsTaken said aid) × (result ≡ Err Full ↔ ((IsTaken said aid → ⊥) × full))
+    Judged result = (result ≡ Err Taken ↔ IsAidTaken said aid) × (result ≡ Err Full ↔ ((IsAidTaken said aid → ⊥) × full))
 
     -- what is refused is refused for the reason that is answered
     judged : {T : Type 0} (slots : List (Option T)) → (NoneFree slots → full) → (result : Result ℕ AddRefusal) (found : AddRefusal) → IsErrAnd result (λ refusal. refusal ≡ found)
@@ -71,7 +71,7 @@ module _ (page : ℕ → List ℕ) (before : Tables) (said : registry.Registry) 
 
   module _ (well : Well said) (after : Tables) (slot : ℕ) where
     -- an entry is added
-    pub entry_added : (entry domain : Entry) → held before.entries.items entry.domain ≡ Some domain → NoneHas before entry.aid → AddsEntry before after slot entry
+    pub entry_added : (entry domain : Entry) → thing_in before.entries.items entry.domain ≡ Some domain → NoneHas before entry.aid → AddsEntry before after slot entry
         → (added : registry.Registry) × IsEntryAdded (entry_of before.entries.items before.files.items entry) said added × Represents page after added
     entry_added entry domain there none adds =
         let view = entry_of before.entries.items before.files.items in
@@ -79,7 +79,7 @@ module _ (page : ℕ → List ℕ) (before : Tables) (said : registry.Registry) 
         let put = put_in (λ (a b : registry.Entry). aid_order a.aid b.aid) (on_total (λ (e : registry.Entry). e.aid) nat_list_cmp_total) (view entry) said.entries
         (sorted_by_name aid_order (λ (e : registry.Entry). e.aid) said.entries says.ascending.entries)
         (λ y among tied. none_fits (λ (e : registry.Entry). same_aid e.aid entry.aid) said.entries unnamed y among ((same_aid_decides y.aid entry.aid).1 (sym (aid_equal_same entry.aid y.aid tied)))) in
-        let changed : IsChanged (λ a b. aid_order a.aid b.aid) (option_map view (held before.entries.items slot)) (Some (view entry)) said.entries put.0 = rw adds.free.free put.1 in (
+        let changed : IsChanged (λ a b. aid_order a.aid b.aid) (option_map view (thing_in before.entries.items slot)) (Some (view entry)) said.entries put.0 = rw adds.free.free put.1 in (
           record said { entries = put.0 },
           record { entries = put.1; same = refl },
           entry_changed page before after said says slot (Some entry) put.0 adds.free.within adds.set
@@ -95,7 +95,7 @@ module _ (page : ℕ → List ℕ) (before : Tables) (said : registry.Registry) 
         let put = put_in (λ (a b : registry.LoadFile). aid_order a.aid b.aid) (on_total (λ (f : registry.LoadFile). f.aid) nat_list_cmp_total) (view file) said.files
         (sorted_by_name aid_order (λ (f : registry.LoadFile). f.aid) said.files says.ascending.files)
         (λ y among tied. none_fits (λ (f : registry.LoadFile). same_aid f.aid file.aid) said.files unnamed y among ((same_aid_decides y.aid file.aid).1 (sym (aid_equal_same file.aid y.aid tied)))) in
-        let changed : IsChanged (λ a b. aid_order a.aid b.aid) (option_map view (held before.files.items slot)) (Some (view file)) said.files put.0 = rw adds.free.free put.1 in (
+        let changed : IsChanged (λ a b. aid_order a.aid b.aid) (option_map view (thing_in before.files.items slot)) (Some (view file)) said.files put.0 = rw adds.free.free put.1 in (
           record said { files = put.0 },
           record { files = put.1; same = refl },
           file_changed page page before after said says slot (Some file) put.0 adds.free.within adds.set

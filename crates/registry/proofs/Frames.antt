@@ -7,7 +7,7 @@ use Rattle.card_types.specs.declared.limits.TheConstants.{ENTRIES, KEYS, OBJECTS
 use Rattle.card_types.proofs.Members.{contains_first}
 use Rattle.rec_store.specs.Keeper.{key_pages}
 use Rattle.rec_store.specs.Places.{entry_page, key_page, object_page}
-use Rattle.rec_store.specs.Room.{HasFrame, HasRoomFor, with_staged}
+use Rattle.rec_store.specs.Room.{HasFrame, HasFramesFor, with_staged}
 use Rattle.rec_store.proofs.Rooms.{room_stays}
 use Rattle.registry.specs.Pages.{KeepsRoom, entry_pages, object_pages, owner_pages}
 
@@ -38,15 +38,15 @@ object_of_owner slot low = Contains-append_right (entry_pages ++ key_pages) obje
 
 module _ (pages staged : List ℕ) (page : ℕ) (among : Contains pages page) where
   -- there is a frame for a page that there is room for, among others
-  pub frame_of : HasRoomFor pages staged → HasFrame staged page
+  pub frame_of : HasFramesFor pages staged → HasFrame staged page
   frame_of room = (room_stays pages staged page room among).0
 
   -- room is kept where one of the pages is staged
   pub keeps_staged : (after : List ℕ) → after ≡ with_staged staged page → KeepsRoom pages staged after
-  keeps_staged after is all holds room = subst (HasRoomFor all) (sym is) (room_stays all staged page room (holds page among)).1
+  keeps_staged after is all holds room = subst (HasFramesFor all) (sym is) (room_stays all staged page room (holds page among)).1
 
 -- there is a frame for a page that there is room for alone
-pub frame_alone : (staged : List ℕ) (page : ℕ) → HasRoomFor (page ∷ []) staged → HasFrame staged page
+pub frame_alone : (staged : List ℕ) (page : ℕ) → HasFramesFor (page ∷ []) staged → HasFrame staged page
 frame_alone staged page = frame_of (page ∷ []) staged page (contains_first page [])
 
 pub keeps_alone : (staged : List ℕ) (page : ℕ) (after : List ℕ) → after ≡ with_staged staged page → KeepsRoom (page ∷ []) staged after
@@ -54,10 +54,10 @@ keeps_alone staged page = keeps_staged (page ∷ []) staged page (contains_first
 
 -- room is kept where nothing is staged, and over two calls
 pub keeps_same : (pages staged after : List ℕ) → after ≡ staged → KeepsRoom pages staged after
-keeps_same pages staged after is all holds room = subst (HasRoomFor all) (sym is) room
+keeps_same pages staged after is all holds room = subst (HasFramesFor all) (sym is) room
 
 pub keeps_on : (pages a b c : List ℕ) → KeepsRoom pages a b → KeepsRoom pages b c → KeepsRoom pages a c
 keeps_on pages a b c first then all holds room = then all holds (first all holds room)
 
-pub still_room : (pages a b : List ℕ) → KeepsRoom pages a b → HasRoomFor pages a → HasRoomFor pages b
+pub still_room : (pages a b : List ℕ) → KeepsRoom pages a b → HasFramesFor pages a → HasFramesFor pages b
 still_room pages a b keeps = keeps pages (λ page there. there)

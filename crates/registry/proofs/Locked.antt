@@ -7,7 +7,7 @@ use Rattle.std.proofs.lemmas.Bool.{cases_Bool}
 use Rattle.std.proofs.lemmas.List.Sorted.{IsPermutation-map}
 use Rattle.card_types.specs.Registry as registry
 use Rattle.card_types.specs.RegistryChange.{with_locks}
-use Rattle.card_types.specs.Represents.{Represents, counter_of, domain_aid, entry_of, file_of, keeps_counter, key_of, object_of, used, held}
+use Rattle.card_types.specs.Represents.{Represents, counter_of, domain_aid, entry_of, file_of, keeps_counter, key_of, object_of, things_in, thing_in}
 use Rattle.card_types.specs.Well.{Well}
 use Rattle.card_types.specs.declared.tables.Entry.{Entry}
 use Rattle.card_types.specs.declared.tables.Tables.{Tables}
@@ -19,7 +19,7 @@ use Rattle.registry.proofs.Tree.{in_tree_named, named_in_tree, these, these_tell
 
 -- a list that shows the things in slots, each of them changed where it is
 mapped_slots : {T X : Type 0} (view view' : T → X) (f : X → X) (before after : List (Option T)) → length after ≡ length before
-    → ((slot : ℕ) → option_map view' (held after slot) ≡ option_map f (option_map view (held before slot))) → map view' (used after) ≡ map f (map view (used before))
+    → ((slot : ℕ) → option_map view' (thing_in after slot) ≡ option_map f (option_map view (thing_in before slot))) → map view' (things_in after) ≡ map f (map view (things_in before))
 mapped_slots view view' f [] [] long each = refl
 mapped_slots view view' f [] (y ∷ after) long each = absurd (omega (arith, long))
 mapped_slots view view' f (x ∷ before) [] long each = absurd (omega (arith, long))
@@ -32,7 +32,7 @@ mapped_slots view view' f (Some x ∷ before) (Some y ∷ after) long each =
     rw (first, rest) refl
 
 module _ (page : ℕ → List ℕ) (before after : Tables) (said : registry.Registry) (says : Represents page before said) (well : Well said) (domain : ℕ) (top : Entry)
-    (at : held before.entries.items domain ≡ Some top) (locked : Bool) (locks : LocksTree before after domain locked)
+    (at : thing_in before.entries.items domain ≡ Some top) (locked : Bool) (locks : LocksTree before after domain locked)
     (long : length after.entries.items ≡ length before.entries.items) where
   abbrev tree : List ℕ → Bool
   tree = these page before said says well domain top at
@@ -43,13 +43,13 @@ module _ (page : ℕ → List ℕ) (before after : Tables) (said : registry.Regi
   abbrev marks : registry.Entry → registry.Entry
   marks entry = cond (tree entry.aid) (mark entry) entry
 
-  free_slot : (slot : ℕ) → held before.entries.items slot ≡ None → held after.entries.items slot ≡ None
+  free_slot : (slot : ℕ) → thing_in before.entries.items slot ≡ None → thing_in after.entries.items slot ≡ None
   free_slot slot free =
       locks.outside slot (λ there. (let entry = used_in_tree before.entries.items domain slot top at there in let used = entry.1 in cc)) ∙ free
 
   -- what a used slot holds then
-  used_slot : (slot : ℕ) (entry : Entry) → held before.entries.items slot ≡ Some entry
-      → held after.entries.items slot ≡ Some (cond (tree entry.aid) (with_lock locked entry) entry)
+  used_slot : (slot : ℕ) (entry : Entry) → thing_in before.entries.items slot ≡ Some entry
+      → thing_in after.entries.items slot ≡ Some (cond (tree entry.aid) (with_lock locked entry) entry)
   used_slot slot entry here =
       let tells = these_tell page before said says well domain top at entry.aid in
       elim (cases_Bool (tree entry.aid)) [
@@ -60,12 +60,12 @@ module _ (page : ℕ → List ℕ) (before after : Tables) (said : registry.Regi
       ]
 
   same_aids : (slot : ℕ) → domain_aid after.entries.items slot ≡ domain_aid before.entries.items slot
-  same_aids slot = by (held before.entries.items slot) refl
+  same_aids slot = by (thing_in before.entries.items slot) refl
     where
       aid_in : Option Entry → List ℕ
       aid_in o = unwrap_or (option_map (λ (e : Entry). e.aid) o) []
 
-      by : (o : Option Entry) → held before.entries.items slot ≡ o → domain_aid after.entries.items slot ≡ domain_aid before.entries.items slot
+      by : (o : Option Entry) → thing_in before.entries.items slot ≡ o → domain_aid after.entries.items slot ≡ domain_aid before.entries.items slot
       by None free = (let gone = free_slot slot free in rw (gone, free) refl)
       by (Some entry) here = elim (cases_Bool (tree entry.aid)) [
         | inl there ↦ (let then = used_slot slot entry here in rw (then, here, there) refl)
@@ -81,10 +81,10 @@ module _ (page : ℕ → List ℕ) (before after : Tables) (said : registry.Regi
   same_view : (entry : Entry) → view' entry ≡ view entry
   same_view entry = rw (same_aids entry.domain, locks.files) refl
 
-  same_slot : (slot : ℕ) → option_map view' (held after.entries.items slot) ≡ option_map marks (option_map view (held before.entries.items slot))
-  same_slot slot = by (held before.entries.items slot) refl
+  same_slot : (slot : ℕ) → option_map view' (thing_in after.entries.items slot) ≡ option_map marks (option_map view (thing_in before.entries.items slot))
+  same_slot slot = by (thing_in before.entries.items slot) refl
     where
-      by : (o : Option Entry) → held before.entries.items slot ≡ o → option_map view' (held after.entries.items slot) ≡ option_map marks (option_map view (held before.entries.items slot))
+      by : (o : Option Entry) → thing_in before.entries.items slot ≡ o → option_map view' (thing_in after.entries.items slot) ≡ option_map marks (option_map view (thing_in before.entries.items slot))
       by None free = (let gone = free_slot slot free in rw (gone, free) refl)
       by (Some entry) here = elim (cases_Bool (tree entry.aid)) [
         | inl there ↦ (let then = used_slot slot entry here in rw (then, here, there) (ap Some (same_view (with_lock locked entry))))
@@ -95,7 +95,7 @@ module _ (page : ℕ → List ℕ) (before after : Tables) (said : registry.Regi
   tree_locked = record {
     life = locks.life ∙ says.life;
     entries = subst (λ (xs : List registry.Entry). IsPermutation xs (map marks said.entries)) (sym (mapped_slots view view' marks before.entries.items after.entries.items long same_slot))
-        (IsPermutation-map marks (map view (used before.entries.items)) said.entries says.entries);
+        (IsPermutation-map marks (map view (things_in before.entries.items)) said.entries says.entries);
     files = same_all (file_of page before.entries.items) (file_of page after.entries.items) before.files.items after.files.items said.files says.files locks.files
         (λ other file there. rw (same_aids file.domain));
     keys = same_all (key_of before.entries.items) (key_of after.entries.items) before.keys.items after.keys.items said.keys says.keys locks.keys

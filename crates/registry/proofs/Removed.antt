@@ -11,7 +11,7 @@ use Rattle.card_types.specs.Aid.{aid_order, same_aid}
 use Rattle.card_types.specs.Registry.{counter_order, key_order, object_order}
 use Rattle.card_types.specs.RegistryChange.{IsChanged, IsRemoved, without_entry}
 use Rattle.card_types.specs.Registry as registry
-use Rattle.card_types.specs.Represents.{Represents, counter_of, domain_aid, entry_of, keeps_counter, key_of, object_of, used, held}
+use Rattle.card_types.specs.Represents.{Represents, counter_of, domain_aid, entry_of, keeps_counter, key_of, object_of, things_in, thing_in}
 use Rattle.card_types.specs.SlotChange.{SetsEntry}
 use Rattle.card_types.specs.Well.{Well}
 use Rattle.card_types.specs.declared.tables.Entry.{Entry}
@@ -27,7 +27,7 @@ use Rattle.card_types.proofs.Members.{filtered}
 use Rattle.card_types.proofs.ObjectNames.{object_order_total}
 use Rattle.card_types.proofs.SameAid.{same_aid_decides}
 use Rattle.card_types.proofs.Shows.{held_from_used, shows_used, used_from_held}
-use Rattle.registry.specs.Removing.{IsNoDomain, freed, key_owner, object_owner}
+use Rattle.registry.specs.Removing.{IsNoDomain, key_owner, object_owner, slot_without}
 use Rattle.registry.proofs.Freed.{used_freed}
 
 -- a list of what slots show, without what fits a test
@@ -46,26 +46,26 @@ same_tests false true to from = from refl
 same_tests false false to from = refl
 
 module _ (page : ℕ → List ℕ) (before between : Tables) (said : registry.Registry) (says : Represents page before said) (well : Well said) (slot : ℕ) (entry : Entry)
-    (at : held before.entries.items slot ≡ Some entry) (life : between.life ≡ before.life) (entries : between.entries.items ≡ before.entries.items)
-    (files : between.files.items ≡ before.files.items) (keys : between.keys.items ≡ map (freed key_owner slot) before.keys.items)
-    (objects : between.objects.items ≡ map (freed object_owner slot) before.objects.items) where
+    (at : thing_in before.entries.items slot ≡ Some entry) (life : between.life ≡ before.life) (entries : between.entries.items ≡ before.entries.items)
+    (files : between.files.items ≡ before.files.items) (keys : between.keys.items ≡ map (slot_without key_owner slot) before.keys.items)
+    (objects : between.objects.items ≡ map (slot_without object_owner slot) before.objects.items) where
   abbrev aid : List ℕ
   aid = domain_aid before.entries.items slot
 
   -- a domain that is in its slot has the AID exactly where that slot is this one
-  owner_named : (owner : ℕ) (domain : Entry) → held before.entries.items owner ≡ Some domain → same_aid (domain_aid before.entries.items owner) aid ≡ (owner == slot)
+  owner_named : (owner : ℕ) (domain : Entry) → thing_in before.entries.items owner ≡ Some domain → same_aid (domain_aid before.entries.items owner) aid ≡ (owner == slot)
   owner_named owner domain there =
       same_tests (same_aid (domain_aid before.entries.items owner) aid) (owner == slot)
       (λ same. eq-eqb owner slot (same_domain page before said says owner slot domain entry there at ((same_aid_decides (domain_aid before.entries.items owner) aid).0 same)))
       (λ same. (same_aid_decides (domain_aid before.entries.items owner) aid).1 (ap (domain_aid before.entries.items) (eqb-true owner slot same)))
 
-  key_named : (key : KeyRec) → Contains (used before.keys.items) key → same_aid (domain_aid before.entries.items key.owner) aid ≡ (key.owner == slot)
+  key_named : (key : KeyRec) → Contains (things_in before.keys.items) key → same_aid (domain_aid before.entries.items key.owner) aid ≡ (key.owner == slot)
   key_named key there =
       let held_at = held_from_used before.keys.items key there in
       let owner = key_owner_is_used page before said says well held_at.0 key held_at.1 in
       owner_named key.owner owner.0 owner.1
 
-  object_named : (object : Object) → Contains (used before.objects.items) object → same_aid (domain_aid before.entries.items object.owner) aid ≡ (object.owner == slot)
+  object_named : (object : Object) → Contains (things_in before.objects.items) object → same_aid (domain_aid before.entries.items object.owner) aid ≡ (object.owner == slot)
   object_named object there =
       let held_at = held_from_used before.objects.items object there in
       let owner = object_owner_is_used page before said says well held_at.0 object held_at.1 in
@@ -74,11 +74,11 @@ module _ (page : ℕ → List ℕ) (before between : Tables) (said : registry.Re
   abbrev rest : registry.Registry
   rest = record (without_entry said aid) { entries = said.entries }
 
-  keys_left : used between.keys.items ≡ filter (λ key. not (key.owner == slot)) (used before.keys.items)
-  keys_left = ap (λ (slots : List (Option KeyRec)). used slots) keys ∙ used_freed key_owner slot before.keys.items
+  keys_left : things_in between.keys.items ≡ filter (λ key. not (key.owner == slot)) (things_in before.keys.items)
+  keys_left = ap (λ (slots : List (Option KeyRec)). things_in slots) keys ∙ used_freed key_owner slot before.keys.items
 
-  objects_left : used between.objects.items ≡ filter (λ object. not (object.owner == slot)) (used before.objects.items)
-  objects_left = ap (λ (slots : List (Option Object)). used slots) objects ∙ used_freed object_owner slot before.objects.items
+  objects_left : things_in between.objects.items ≡ filter (λ object. not (object.owner == slot)) (things_in before.objects.items)
+  objects_left = ap (λ (slots : List (Option Object)). things_in slots) objects ∙ used_freed object_owner slot before.objects.items
 
   -- what they say without the keys and data objects
   says_between : Represents page between rest
@@ -88,14 +88,14 @@ module _ (page : ℕ → List ℕ) (before between : Tables) (said : registry.Re
     files = rw (entries, files) says.files;
     keys = rw (entries, keys_left)
         (without_shown key_order key_order_total (key_of before.entries.items) (λ key. same_aid key.owner aid) (λ key. key.owner == slot)
-        (used before.keys.items) said.keys says.keys says.ascending.keys key_named);
-    counters = rw (entries, keys_left, filters_exchanged keeps_counter (λ key. not (key.owner == slot)) (used before.keys.items))
+        (things_in before.keys.items) said.keys says.keys says.ascending.keys key_named);
+    counters = rw (entries, keys_left, filters_exchanged keeps_counter (λ key. not (key.owner == slot)) (things_in before.keys.items))
         (without_shown counter_order counter_order_total (counter_of before.entries.items) (λ counter. same_aid counter.owner aid) (λ key. key.owner == slot)
-        (filter keeps_counter (used before.keys.items)) said.counters says.counters says.ascending.counters
-        (λ key there. key_named key (filtered keeps_counter (used before.keys.items) key there).0));
+        (filter keeps_counter (things_in before.keys.items)) said.counters says.counters says.ascending.counters
+        (λ key there. key_named key (filtered keeps_counter (things_in before.keys.items) key there).0));
     objects = rw (entries, objects_left)
         (without_shown object_order object_order_total (object_of before.entries.items) (λ object. same_aid object.owner aid) (λ object. object.owner == slot)
-        (used before.objects.items) said.objects says.objects says.ascending.objects object_named);
+        (things_in before.objects.items) said.objects says.objects says.ascending.objects object_named);
     ascending = record {
       entries = says.ascending.entries;
       files = says.ascending.files;
@@ -105,24 +105,24 @@ module _ (page : ℕ → List ℕ) (before between : Tables) (said : registry.Re
     };
   }
 
-  key_gone : (other : ℕ) (key : KeyRec) → held between.keys.items other ≡ Some key → key.owner ≢ slot
+  key_gone : (other : ℕ) (key : KeyRec) → thing_in between.keys.items other ≡ Some key → key.owner ≢ slot
   key_gone other key there same =
       let among = subst (λ (things : List KeyRec). Contains things key) keys_left (used_from_held between.keys.items other key there) in
-      let kept = not-true (key.owner == slot) (filtered (λ key. not (key.owner == slot)) (used before.keys.items) key among).1 in
+      let kept = not-true (key.owner == slot) (filtered (λ key. not (key.owner == slot)) (things_in before.keys.items) key among).1 in
       let owned = eq-eqb key.owner slot same in
       cc
 
-  object_gone : (other : ℕ) (object : Object) → held between.objects.items other ≡ Some object → object.owner ≢ slot
+  object_gone : (other : ℕ) (object : Object) → thing_in between.objects.items other ≡ Some object → object.owner ≢ slot
   object_gone other object there same =
       let among = subst (λ (things : List Object). Contains things object) objects_left (used_from_held between.objects.items other object there) in
-      let kept = not-true (object.owner == slot) (filtered (λ object. not (object.owner == slot)) (used before.objects.items) object among).1 in
+      let kept = not-true (object.owner == slot) (filtered (λ object. not (object.owner == slot)) (things_in before.objects.items) object among).1 in
       let owned = eq-eqb object.owner slot same in
       cc
 
   unnamed : IsNoDomain before slot → NoneNames between slot
   unnamed alone = record {
-    entries = λ other e apart there. alone.entries other e apart (ap (λ (slots : List (Option Entry)). held slots other) (sym entries) ∙ there);
-    files = λ other file there. alone.files other file (ap (λ slots. held slots other) (sym files) ∙ there);
+    entries = λ other e apart there. alone.entries other e apart (ap (λ (slots : List (Option Entry)). thing_in slots other) (sym entries) ∙ there);
+    files = λ other file there. alone.files other file (ap (λ slots. thing_in slots other) (sym files) ∙ there);
     keys = key_gone;
     objects = object_gone;
   }
@@ -130,13 +130,13 @@ module _ (page : ℕ → List ℕ) (before between : Tables) (said : registry.Re
   -- what the tables say without the entry
   pub entry_removed : (after : Tables) → IsNoDomain before slot → SetsEntry between after slot None → Represents page after (without_entry said aid)
   entry_removed after alone set =
-      let here : held between.entries.items slot ≡ Some entry = ap (λ (slots : List (Option Entry)). held slots slot) entries ∙ at in
+      let here : thing_in between.entries.items slot ≡ Some entry = ap (λ (slots : List (Option Entry)). thing_in slots slot) entries ∙ at in
       let within = held_within between.entries.items slot entry here in
       let view = entry_of between.entries.items between.files.items in
       let named : entry.aid ≡ aid = sym (domain_aid_is before.entries.items slot entry at) in
       let among = (shows_used view between.entries.items said.entries says_between.entries).there slot entry here refl in
       let removed : IsRemoved (λ a b. aid_order a.aid b.aid) (view entry) said.entries (without_entry said aid).entries =
       removed_named (λ (e : registry.Entry). e.aid) aid (view entry) said.entries named says.ascending.entries among in
-      let changed : IsChanged (λ a b. aid_order a.aid b.aid) (option_map view (held between.entries.items slot)) None said.entries (without_entry said aid).entries = rw here removed in
+      let changed : IsChanged (λ a b. aid_order a.aid b.aid) (option_map view (thing_in between.entries.items slot)) None said.entries (without_entry said aid).entries = rw here removed in
       entry_changed page between after rest says_between slot None (without_entry said aid).entries within set
       (keeps_domains_removed page between after rest says_between slot within set (unnamed alone)) changed

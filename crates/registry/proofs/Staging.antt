@@ -3,7 +3,7 @@ use Rattle.std.proofs.Common.{◌≡◌, ◌≢◌, ◌⊎◌, inl, inr, ℕ, �
 use Rattle.std.specs.Prelude.{Contains, slice_set}
 use Rattle.std.proofs.lemmas.Bool.{cases_Bool}
 use Rattle.std.proofs.lemmas.List.{get_or-set_other}
-use Rattle.card_types.specs.Represents.{held}
+use Rattle.card_types.specs.Represents.{thing_in}
 use Rattle.card_types.proofs.Members.{contains_cases, contains_first, contains_later}
 use Rattle.rec_store.specs.Room.{with_staged}
 use Rattle.registry.specs.Pages.{StagesChanged}
@@ -28,7 +28,7 @@ staged_before (first ∷ rest) page other there = elim (cases_Bool (first == pag
 -- Each page that is staged was staged, or a slot on it below the count holds another thing.
 abbrev pub IsStaged : {T : Type 0} → (ℕ → ℕ) → List ℕ → List ℕ → List (Option T) → List (Option T) → ℕ → Type 0
 IsStaged page_of before staged start now count =
-    (page : ℕ) → Contains staged page → Contains before page ⊎ ((slot : ℕ) × (page_of slot ≡ page) × (slot < count) × (held now slot ≢ held start slot))
+    (page : ℕ) → Contains staged page → Contains before page ⊎ ((slot : ℕ) × (page_of slot ≡ page) × (slot < count) × (thing_in now slot ≢ thing_in start slot))
 
 module _ {T : Type 0} (page_of : ℕ → ℕ) (before staged : List ℕ) (start now : List (Option T)) (slot : ℕ) (so_far : IsStaged page_of before staged start now slot) where
   pub passed_staged : IsStaged page_of before staged start now (slot + 1)
@@ -45,13 +45,13 @@ module _ {T : Type 0} (page_of : ℕ → ℕ) (before staged : List ℕ) (start 
 
   -- the slot is changed, and its page is staged
   pub set_staged : (after : List (Option T)) (thing : Option T) (then : List ℕ) → after ≡ slice_set now slot thing → then ≡ with_staged staged (page_of slot)
-      → held after slot ≢ held start slot → IsStaged page_of before then start after (slot + 1)
+      → thing_in after slot ≢ thing_in start slot → IsStaged page_of before then start after (slot + 1)
   set_staged after thing then set is differs page there = elim (staged_before staged (page_of slot) page (subst (λ (s : List ℕ). Contains s page) is there)) [
     | inl old ↦ elim (so_far page old) [
       | inl older ↦ inl older
       | inr new ↦
-          (let kept : held after new.0 ≡ held now new.0 =
-          ap (λ (s : List (Option T)). held s new.0) set ∙ get_or-set_other now slot new.0 thing None (λ same. omega (arith, same, new.2)) in
+          (let kept : thing_in after new.0 ≡ thing_in now new.0 =
+          ap (λ (s : List (Option T)). thing_in s new.0) set ∙ get_or-set_other now slot new.0 thing None (λ same. omega (arith, same, new.2)) in
           inr (new.0, new.1, omega (arith, new.2), λ same. new.3 (sym kept ∙ same)))
     ]
     | inr new ↦ inr (slot, new, omega arith, differs)

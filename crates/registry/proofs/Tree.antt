@@ -5,7 +5,7 @@ use Rattle.std.proofs.lemmas.Bool.{cases_eq}
 use Rattle.card_types.specs.Hierarchy.{IsLine, IsPath}
 use Rattle.card_types.specs.Registry as registry
 use Rattle.card_types.specs.Registry.{domain_of, entry_named}
-use Rattle.card_types.specs.Represents.{Represents, domain_aid, domain_slot, held}
+use Rattle.card_types.specs.Represents.{Represents, domain_aid, domain_slot, thing_in}
 use Rattle.card_types.specs.Well.{Well}
 use Rattle.card_types.specs.declared.tables.Entry.{Entry}
 use Rattle.card_types.specs.declared.tables.Tables.{Tables}
@@ -17,7 +17,7 @@ use Rattle.domain_tree.specs.Slots.{IsFreeOfLoops}
 use Rattle.domain_tree.proofs.AboveNamed.{above_in_slots, above_named, free_of_loops}
 use Rattle.domain_tree.proofs.Climb.{above_next, none_above_root, steps_from}
 use Rattle.domain_tree.proofs.OnLine.{above_lower}
-use Rattle.registry.specs.Tree.{IsInTree}
+use Rattle.registry.specs.Tree.{IsSlotInTree}
 
 -- over the same steps the same is above
 path_alike : (step step' : ℕ → Option ℕ) → ((a : ℕ) → step' a ≡ step a) → (from to : ℕ) (path : List ℕ) → IsPath step from path to → IsPath step' from path to
@@ -38,7 +38,7 @@ module _ (entries entries' : List (Option Entry)) (steps : (slot : ℕ) → doma
       let there = used_from_step entries slot entry.domain (sym (steps slot) ∙ ap (option_map (λ (e : Entry). e.domain)) at) in
       leads_kept (domain_slot entries) (domain_slot entries') slot (free slot there.0 there.1) (λ x _. steps x)
 
-  pub in_tree_still : (domain slot : ℕ) → IsInTree entries' domain slot → IsInTree entries domain slot
+  pub in_tree_still : (domain slot : ℕ) → IsSlotInTree entries' domain slot → IsSlotInTree entries domain slot
   in_tree_still domain slot (inl same) = inl same
   in_tree_still domain slot (inr above) = inr (above_alike (domain_slot entries') (domain_slot entries) (λ k. sym (steps k)) domain slot above)
 
@@ -75,16 +75,16 @@ module _ (step : ℕ → Option ℕ) (domain : ℕ) where
   ]
 
 -- nothing but entries is a domain that is used, or below it
-pub used_in_tree : (entries : List (Option Entry)) (domain slot : ℕ) (top : Entry) → held entries domain ≡ Some top → IsInTree entries domain slot
-    → (entry : Entry) × (held entries slot ≡ Some entry)
-used_in_tree entries domain slot top at (inl same) = (top, ap (held entries) same ∙ at)
+pub used_in_tree : (entries : List (Option Entry)) (domain slot : ℕ) (top : Entry) → thing_in entries domain ≡ Some top → IsSlotInTree entries domain slot
+    → (entry : Entry) × (thing_in entries slot ≡ Some entry)
+used_in_tree entries domain slot top at (inl same) = (top, ap (thing_in entries) same ∙ at)
 used_in_tree entries domain slot top at (inr above) =
     let next = steps_from (domain_slot entries) domain slot above in
     let entry = used_from_step entries slot next.0 next.1 in
     (entry.0, entry.1)
 
 module _ (page : ℕ → List ℕ) (tables : Tables) (said : registry.Registry) (says : Represents page tables said) (well : Well said) (domain : ℕ) (top : Entry)
-    (at : held tables.entries.items domain ≡ Some top) where
+    (at : thing_in tables.entries.items domain ≡ Some top) where
   abbrev entries : List (Option Entry)
   entries = tables.entries.items
 
@@ -94,13 +94,13 @@ module _ (page : ℕ → List ℕ) (tables : Tables) (said : registry.Registry) 
   abbrev pub Named : List ℕ → Type 0
   Named aid = (aid ≡ root) ⊎ Above (domain_of said) root aid
 
-  pub named_in_tree : (slot : ℕ) (entry : Entry) → held tables.entries.items slot ≡ Some entry → IsInTree tables.entries.items domain slot → Named entry.aid
+  pub named_in_tree : (slot : ℕ) (entry : Entry) → thing_in tables.entries.items slot ≡ Some entry → IsSlotInTree tables.entries.items domain slot → Named entry.aid
   named_in_tree slot entry here (inl same) =
       inl (sym (domain_aid_is entries slot entry here) ∙ ap (domain_aid entries) same)
   named_in_tree slot entry here (inr above) =
       inr (subst (Above (domain_of said) root) (domain_aid_is entries slot entry here) (above_named page tables said says domain slot top entry at here above))
 
-  pub in_tree_named : (slot : ℕ) (entry : Entry) → held tables.entries.items slot ≡ Some entry → Named entry.aid → IsInTree tables.entries.items domain slot
+  pub in_tree_named : (slot : ℕ) (entry : Entry) → thing_in tables.entries.items slot ≡ Some entry → Named entry.aid → IsSlotInTree tables.entries.items domain slot
   in_tree_named slot entry here (inl same) =
       inl (same_domain page tables said says slot domain entry top here at (domain_aid_is entries slot entry here ∙ same))
   in_tree_named slot entry here (inr above) =

@@ -17,7 +17,7 @@ use Rattle.card_types.specs.Aid.{aid_order, same_aid}
 use Rattle.card_types.specs.Privileges.{has, security_domain}
 use Rattle.card_types.specs.Registry as registry
 use Rattle.card_types.specs.RegistryChange.{without_applications}
-use Rattle.card_types.specs.Represents.{Represents, domain_aid, entry_of, file_aid, used, held}
+use Rattle.card_types.specs.Represents.{Represents, domain_aid, entry_of, file_aid, things_in, thing_in}
 use Rattle.card_types.specs.Well.{Well}
 use Rattle.card_types.specs.declared.factory.TheConstants.{FACTORY_FILE}
 use Rattle.card_types.specs.declared.tables.Entry.{Entry}
@@ -29,14 +29,14 @@ use Rattle.registry.proofs.Removed.{same_tests, without_shown}
 
 -- what is in a slot then comes from another file
 module _ (before after : Tables) (file : ℕ) (removes : RemovesApplications before after file) where
-  left : (slot : ℕ) (entry : Entry) → held after.entries.items slot ≡ Some entry → (held before.entries.items slot ≡ Some entry) × (entry.file ≢ file)
-  left slot entry at = left_there entry_file file before.entries.items slot entry (ap (λ (s : List (Option Entry)). held s slot) (sym removes.entries) ∙ at)
+  left : (slot : ℕ) (entry : Entry) → thing_in after.entries.items slot ≡ Some entry → (thing_in before.entries.items slot ≡ Some entry) × (entry.file ≢ file)
+  left slot entry at = left_there entry_file file before.entries.items slot entry (ap (λ (s : List (Option Entry)). thing_in s slot) (sym removes.entries) ∙ at)
 
   pub unloaded : IsUnloaded after file
   unloaded slot entry at = (left slot entry at).1
 
 module _ (page : ℕ → List ℕ) (before after : Tables) (said : registry.Registry) (says : Represents page before said) (well : Well said) (file : ℕ) (loaded : LoadFile)
-    (at : held before.files.items file ≡ Some loaded) (other : file_aid before.files.items file ≢ FACTORY_FILE) (removes : RemovesApplications before after file) where
+    (at : thing_in before.files.items file ≡ Some loaded) (other : file_aid before.files.items file ≢ FACTORY_FILE) (removes : RemovesApplications before after file) where
   abbrev aid : List ℕ
   aid = file_aid before.files.items file
 
@@ -44,13 +44,13 @@ module _ (page : ℕ → List ℕ) (before after : Tables) (said : registry.Regi
   view = entry_of before.entries.items before.files.items
 
   -- a domain comes from the factory's file, so it stays
-  domain_stays : (slot : ℕ) (domain : Entry) → held before.entries.items slot ≡ Some domain → has security_domain domain.privileges ≡ true
+  domain_stays : (slot : ℕ) (domain : Entry) → thing_in before.entries.items slot ≡ Some domain → has security_domain domain.privileges ≡ true
       → domain_aid after.entries.items slot ≡ domain_aid before.entries.items slot
   domain_stays slot domain there is =
       let proper = (well_entry page before said says well slot domain there).proper in
       let from : file_aid before.files.items domain.file ≡ FACTORY_FILE = (same_aid_decides (file_aid before.files.items domain.file) FACTORY_FILE).0 (sym proper.kind ∙ is) in
       let stays = other_stays entry_file file before.entries.items slot domain there (λ same. other (ap (file_aid before.files.items) (sym same) ∙ from)) in
-      let then : held after.entries.items slot ≡ Some domain = ap (λ (s : List (Option Entry)). held s slot) removes.entries ∙ stays in
+      let then : thing_in after.entries.items slot ≡ Some domain = ap (λ (s : List (Option Entry)). thing_in s slot) removes.entries ∙ stays in
       domain_aid_is after.entries.items slot domain then ∙ sym (domain_aid_is before.entries.items slot domain there)
 
   keeps : KeepsDomains before after
@@ -63,7 +63,7 @@ module _ (page : ℕ → List ℕ) (before after : Tables) (said : registry.Regi
   }
 
   -- an entry comes from the file with the AID exactly where that is the one in the slot
-  file_named : (entry : Entry) → Contains (used before.entries.items) entry → same_aid (file_aid before.files.items entry.file) aid ≡ (entry.file == file)
+  file_named : (entry : Entry) → Contains (things_in before.entries.items) entry → same_aid (file_aid before.files.items entry.file) aid ≡ (entry.file == file)
   file_named entry there =
       let held_at = held_from_used before.entries.items entry there in
       let own = loaded_file_is_used page before said says well held_at.0 entry held_at.1 in
@@ -76,14 +76,14 @@ module _ (page : ℕ → List ℕ) (before after : Tables) (said : registry.Regi
   abbrev rest : List registry.Entry
   rest = (without_applications said aid).entries
 
-  left_entries : used after.entries.items ≡ filter (λ entry. not (entry.file == file)) (used before.entries.items)
-  left_entries = ap (λ (slots : List (Option Entry)). used slots) removes.entries ∙ used_freed entry_file file before.entries.items
+  left_entries : things_in after.entries.items ≡ filter (λ entry. not (entry.file == file)) (things_in before.entries.items)
+  left_entries = ap (λ (slots : List (Option Entry)). things_in slots) removes.entries ∙ used_freed entry_file file before.entries.items
 
-  shown_before : IsPermutation (map view (used after.entries.items)) rest
+  shown_before : IsPermutation (map view (things_in after.entries.items)) rest
   shown_before =
       subst (λ (entries : List Entry). IsPermutation (map view entries) rest) (sym left_entries)
       (without_shown (λ a b. aid_order a.aid b.aid) (on_total (λ (e : registry.Entry). e.aid) nat_list_cmp_total) view (λ entry. same_aid entry.file aid) (λ entry. entry.file == file)
-      (used before.entries.items) said.entries says.entries (sorted_by_name aid_order (λ (e : registry.Entry). e.aid) said.entries says.ascending.entries) file_named)
+      (things_in before.entries.items) said.entries says.entries (sorted_by_name aid_order (λ (e : registry.Entry). e.aid) said.entries says.ascending.entries) file_named)
 
   pub applications_removed : Represents page after (without_applications said aid)
   applications_removed =

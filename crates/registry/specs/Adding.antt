@@ -12,8 +12,8 @@ use Rattle.registry.specs.declared.refusal.AddRefusal.{AddRefusal}
 use Rattle.registry.specs.declared.refusal.AddRefusal.TheVariants.{Taken, Full}
 
 -- an entry or an Executable Load File has the AID
-abbrev pub IsTaken : Registry → List ℕ → Type 0
-IsTaken registry aid = IsSome (entry_named registry aid) ⊎ IsSome (file_named registry aid)
+abbrev pub IsAidTaken : Registry → List ℕ → Type 0
+IsAidTaken registry aid = IsSome (entry_named registry aid) ⊎ IsSome (file_named registry aid)
 
 -- the thing is in the first slot that was free
 pub record AddsEntry (before after : Tables) (slot : ℕ) (entry : Entry) : Type 0 where

@@ -1,12 +1,12 @@
 -- The store pages that one command may change, and the frames for them.
 use Rattle.std.specs.Prelude.{◌≡◌, ◌≢◌, ◌⊎◌, ℕ, List, [], ◌∷◌, ◌++◌, Option, Contains}
 use Rattle.std.specs.List.{range_with_len}
-use Rattle.card_types.specs.Represents.{held}
+use Rattle.card_types.specs.Represents.{thing_in}
 use Rattle.card_types.specs.declared.found.Found.{Found}
 use Rattle.card_types.specs.declared.found.Found.TheVariants.{Entry, File}
 use Rattle.rec_store.specs.Keeper.{key_pages}
 use Rattle.rec_store.specs.Places.{entry_page, file_page}
-use Rattle.rec_store.specs.Room.{HasRoomFor}
+use Rattle.rec_store.specs.Room.{HasFramesFor}
 
 -- the store pages with the slots of entries, and of data objects
 abbrev pub entry_pages : List ℕ
@@ -35,7 +35,7 @@ registry_pages file = 0 ∷ file_page file ∷ owner_pages
 
 -- a slot on the page holds another thing than before
 abbrev pub IsChangedOn : {T : Type 0} → (ℕ → ℕ) → List (Option T) → List (Option T) → ℕ → Type 0
-IsChangedOn page_of before after page = (slot : ℕ) × (page_of slot ≡ page) × (held after slot ≢ held before slot)
+IsChangedOn page_of before after page = (slot : ℕ) × (page_of slot ≡ page) × (thing_in after slot ≢ thing_in before slot)
 
 -- each page that is staged then was staged, or a slot on it holds another thing than before
 abbrev pub StagesChanged : {T : Type 0} → (ℕ → ℕ) → List (Option T) → List (Option T) → List ℕ → List ℕ → Type 0
@@ -43,14 +43,14 @@ StagesChanged page_of before after old new = (page : ℕ) → Contains new page 
 
 -- room for any pages, these among them, is kept
 abbrev pub KeepsRoom : List ℕ → List ℕ → List ℕ → Type 0
-KeepsRoom pages old new = (all : List ℕ) → ((page : ℕ) → Contains pages page → Contains all page) → HasRoomFor all old → HasRoomFor all new
+KeepsRoom pages old new = (all : List ℕ) → ((page : ℕ) → Contains pages page → Contains all page) → HasFramesFor all old → HasFramesFor all new
 
 -- with nothing staged there is room for what one command may change
 abbrev pub RoomForCommand : Type 0
-RoomForCommand = (file : ℕ) → HasRoomFor (registry_pages file) []
+RoomForCommand = (file : ℕ) → HasFramesFor (registry_pages file) []
 
 -- room for all of it is room for each part
 abbrev pub RoomForParts : Type 0
-RoomForParts = (file : ℕ) (staged : List ℕ) → HasRoomFor (registry_pages file) staged
-    → HasRoomFor (0 ∷ []) staged × HasRoomFor (file_page file ∷ []) staged × HasRoomFor entry_pages staged × HasRoomFor key_pages staged
-    × HasRoomFor object_pages staged × HasRoomFor owner_pages staged
+RoomForParts = (file : ℕ) (staged : List ℕ) → HasFramesFor (registry_pages file) staged
+    → HasFramesFor (0 ∷ []) staged × HasFramesFor (file_page file ∷ []) staged × HasFramesFor entry_pages staged × HasFramesFor key_pages staged
+    × HasFramesFor object_pages staged × HasFramesFor owner_pages staged

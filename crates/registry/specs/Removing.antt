@@ -1,6 +1,6 @@
 -- For the code inside. Things that leave the registry.
 use Rattle.std.specs.Prelude.{◌≡◌, ◌≢◌, ◌⊎◌, ℕ, ◌==◌, Bool, Contains, false, Option, None, Some, map, slice_set, if◌then◌else◌}
-use Rattle.card_types.specs.Represents.{held}
+use Rattle.card_types.specs.Represents.{thing_in}
 use Rattle.card_types.specs.declared.tables.Entry.{Entry}
 use Rattle.card_types.specs.declared.tables.KeyRec.{KeyRec}
 use Rattle.card_types.specs.declared.tables.LoadFile.{LoadFile}
@@ -12,12 +12,12 @@ use Rattle.registry.specs.Pages.{IsChangedOn}
 
 -- the slot is the domain of no other entry and of no Executable Load File
 pub record IsNoDomain (tables : Tables) (slot : ℕ) : Type 0 where
-  pub entries : (other : ℕ) (entry : Entry) → other ≢ slot → held tables.entries.items other ≡ Some entry → entry.domain ≢ slot
-  pub files : (other : ℕ) (file : LoadFile) → held tables.files.items other ≡ Some file → file.domain ≢ slot
+  pub entries : (other : ℕ) (entry : Entry) → other ≢ slot → thing_in tables.entries.items other ≡ Some entry → entry.domain ≢ slot
+  pub files : (other : ℕ) (file : LoadFile) → thing_in tables.files.items other ≡ Some file → file.domain ≢ slot
 
 -- no entry comes from the Executable Load File in the slot
 abbrev pub IsUnloaded : Tables → ℕ → Type 0
-IsUnloaded tables slot = (other : ℕ) (entry : Entry) → held tables.entries.items other ≡ Some entry → entry.file ≢ slot
+IsUnloaded tables slot = (other : ℕ) (entry : Entry) → thing_in tables.entries.items other ≡ Some entry → entry.file ≢ slot
 
 abbrev pub key_owner : KeyRec → ℕ
 key_owner key = key.owner
@@ -35,21 +35,21 @@ is_owned owner domain None = false
 is_owned owner domain (Some thing) = owner thing == domain
 
 -- what the slot holds where these go
-abbrev pub freed : {T : Type 0} → (T → ℕ) → ℕ → Option T → Option T
-freed owner domain held = if is_owned owner domain held then None else held
+abbrev pub slot_without : {T : Type 0} → (T → ℕ) → ℕ → Option T → Option T
+slot_without owner domain held = if is_owned owner domain held then None else held
 
 -- the entry is gone, and so are the keys and data objects that it owns
 pub record RemovesEntry (before after : Tables) (slot : ℕ) : Type 0 where
   pub life : after.life ≡ before.life
   pub entries : after.entries.items ≡ slice_set before.entries.items slot None
   pub files : after.files.items ≡ before.files.items
-  pub keys : after.keys.items ≡ map (freed key_owner slot) before.keys.items
-  pub objects : after.objects.items ≡ map (freed object_owner slot) before.objects.items
+  pub keys : after.keys.items ≡ map (slot_without key_owner slot) before.keys.items
+  pub objects : after.objects.items ≡ map (slot_without object_owner slot) before.objects.items
 
 -- the entries that come from the Executable Load File are gone
 pub record RemovesApplications (before after : Tables) (file : ℕ) : Type 0 where
   pub life : after.life ≡ before.life
-  pub entries : after.entries.items ≡ map (freed entry_file file) before.entries.items
+  pub entries : after.entries.items ≡ map (slot_without entry_file file) before.entries.items
   pub files : after.files.items ≡ before.files.items
   pub keys : after.keys.items ≡ before.keys.items
   pub objects : after.objects.items ≡ before.objects.items

@@ -2,15 +2,15 @@
 -- 2.3.1, 11.10).
 use Rattle.std.specs.Prelude.{◌≡◌, ◌⊎◌, ℕ, List, Bool, Option, length}
 use Rattle.std.specs.Option.{option_map}
-use Rattle.card_types.specs.Represents.{domain_slot, held}
+use Rattle.card_types.specs.Represents.{domain_slot, thing_in}
 use Rattle.card_types.specs.declared.tables.Entry.{Entry}
 use Rattle.card_types.specs.declared.tables.Tables.{Tables}
 use Rattle.domain_tree.specs.Above.{Above}
 use Rattle.rec_store.specs.Contents.{Contents}
 
 -- the slot is that of the domain, or of an entry below it
-abbrev pub IsInTree : List (Option Entry) → ℕ → ℕ → Type 0
-IsInTree entries domain slot = (slot ≡ domain) ⊎ Above (domain_slot entries) domain slot
+abbrev pub IsSlotInTree : List (Option Entry) → ℕ → ℕ → Type 0
+IsSlotInTree entries domain slot = (slot ≡ domain) ⊎ Above (domain_slot entries) domain slot
 
 -- the entry with this lock mark, in the life cycle state that it has
 abbrev pub with_lock : Bool → Entry → Entry
@@ -20,8 +20,8 @@ with_lock locked entry = record entry { life = record { life = entry.life.life; 
 pub record LocksTree (before after : Tables) (domain : ℕ) (locked : Bool) : Type 0 where
   pub life : after.life ≡ before.life
   pub slots : length after.entries.items ≡ length before.entries.items
-  pub inside : (slot : ℕ) → IsInTree before.entries.items domain slot → held after.entries.items slot ≡ option_map (with_lock locked) (held before.entries.items slot)
-  pub outside : (slot : ℕ) → (IsInTree before.entries.items domain slot → ⊥) → held after.entries.items slot ≡ held before.entries.items slot
+  pub inside : (slot : ℕ) → IsSlotInTree before.entries.items domain slot → thing_in after.entries.items slot ≡ option_map (with_lock locked) (thing_in before.entries.items slot)
+  pub outside : (slot : ℕ) → (IsSlotInTree before.entries.items domain slot → ⊥) → thing_in after.entries.items slot ≡ thing_in before.entries.items slot
   pub files : after.files.items ≡ before.files.items
   pub keys : after.keys.items ≡ before.keys.items
   pub objects : after.objects.items ≡ before.objects.items

@@ -2,7 +2,7 @@
 
 ghost use Rattle.std.proofs.Common.{lit<};
 ghost use Rattle.std.specs.Prelude.{◌≡◌, ◌≢◌, ℕ, List, [], true, IsSome};
-ghost use Rattle.registry.specs.Prelude.{HasRoomFor, IsUnloaded, KeepsRoom, Registry, RemovesApplications, Represents, StagesChanged, Well, entry_file, entry_page, entry_pages, file_aid, held, lists_of, without_applications};
+ghost use Rattle.registry.specs.Prelude.{HasFramesFor, IsUnloaded, KeepsRoom, Registry, RemovesApplications, Represents, StagesChanged, Well, entry_file, entry_page, entry_pages, file_aid, lists_of, thing_in, without_applications};
 ghost use Rattle.card_types.specs.declared.factory.TheConstants.{FACTORY_FILE};
 ghost use Rattle.card_types.specs.declared.limits.TheConstants.{ENTRIES};
 
@@ -47,9 +47,9 @@ impl Owned for Entry {
 /// own nothing. It commits nothing.
 pub fn remove_applications<F: Flash>(records: &mut Records<F>, file: u8)
     requires live { records.old.live ≡ true }
-    requires slot { IsSome (held records.old.tables.files.items file) }
+    requires slot { IsSome (thing_in records.old.tables.files.items file) }
     requires other { file_aid records.old.tables.files.items file ≢ FACTORY_FILE }
-    requires room { HasRoomFor entry_pages records.old.staged }
+    requires room { HasFramesFor entry_pages records.old.staged }
     ensures said { (page : ℕ → List ℕ) (said : Registry) → Represents page records.old.tables said → Well said
         → Represents page records.new.tables (without_applications said (file_aid records.old.tables.files.items file)) }
     ensures slots { RemovesApplications records.old.tables records.new.tables file }

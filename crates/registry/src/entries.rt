@@ -1,7 +1,7 @@
 //! Entries: they are added, and changed in their slots (GlobalPlatform Card Specification 2.3.1, 6.5).
 
 ghost use Rattle.std.specs.Prelude.{◌≡◌, ◌↔◌, ◌<◌, ℕ, List, true, length, Err, IfOk, OnErr, OnOk, IsSome};
-ghost use Rattle.registry.specs.Prelude.{AddsEntry, ChangesEntry, HasRoomFor, IsEntryAdded, IsTaken, KeepsRoom, NoneFree, NoneHas, Registry, Represents, SetsEntry, Well, domain_aid, entry_of, entry_page, entry_pages, held, with_life, with_receipts, with_staged};
+ghost use Rattle.registry.specs.Prelude.{AddsEntry, ChangesEntry, HasFramesFor, IsAidTaken, IsEntryAdded, KeepsRoom, NoneFree, NoneHas, Registry, Represents, SetsEntry, Well, domain_aid, entry_of, entry_page, entry_pages, thing_in, with_life, with_receipts, with_staged};
 ghost use Rattle.card_types.specs.declared.limits.TheConstants.{ENTRIES};
 
 use crate::place::place;
@@ -14,7 +14,7 @@ use rec_store::Records;
 pub fn put_entry<F: Flash>(records: &mut Records<F>, slot: u8, value: Option<Entry>)
     requires live { records.old.live ≡ true }
     requires range { slot < ENTRIES }
-    requires room { HasRoomFor entry_pages records.old.staged }
+    requires room { HasFramesFor entry_pages records.old.staged }
     ensures tables { SetsEntry records.old.tables records.new.tables slot value }
     ensures same { (records.new.flash ≡ records.old.flash) × (records.new.live ≡ true) }
     ensures staged { records.new.staged ≡ with_staged records.old.staged (entry_page slot) }
@@ -27,11 +27,11 @@ pub fn put_entry<F: Flash>(records: &mut Records<F>, slot: u8, value: Option<Ent
 /// nothing.
 pub fn place_entry<F: Flash>(records: &mut Records<F>, value: Entry) -> u8
     requires live { records.old.live ≡ true }
-    requires domain { IsSome (held records.old.tables.entries.items value.domain) }
-    requires file { IsSome (held records.old.tables.files.items value.file) }
+    requires domain { IsSome (thing_in records.old.tables.entries.items value.domain) }
+    requires file { IsSome (thing_in records.old.tables.files.items value.file) }
     requires fresh { NoneHas records.old.tables value.aid }
     requires free { NoneFree records.old.tables.entries.items → ⊥ }
-    requires room { HasRoomFor entry_pages records.old.staged }
+    requires room { HasFramesFor entry_pages records.old.staged }
     ensures said { (page : ℕ → List ℕ) (said : Registry) → Represents page records.old.tables said → Well said → (after : Registry)
         × IsEntryAdded (entry_of records.old.tables.entries.items records.old.tables.files.items value) said after × Represents page records.new.tables after }
     ensures slots { AddsEntry records.old.tables records.new.tables result value }
@@ -47,15 +47,15 @@ pub fn place_entry<F: Flash>(records: &mut Records<F>, value: Entry) -> u8
 /// Adds an application or a security domain. It commits nothing.
 pub fn add_entry<F: Flash>(records: &mut Records<F>, value: Entry) -> Result<u8, AddRefusal>
     requires live { records.old.live ≡ true }
-    requires domain { IsSome (held records.old.tables.entries.items value.domain) }
-    requires file { IsSome (held records.old.tables.files.items value.file) }
-    requires room { HasRoomFor entry_pages records.old.staged }
+    requires domain { IsSome (thing_in records.old.tables.entries.items value.domain) }
+    requires file { IsSome (thing_in records.old.tables.files.items value.file) }
+    requires room { HasFramesFor entry_pages records.old.staged }
     ensures said { OnOk result ((page : ℕ → List ℕ) (said : Registry) → Represents page records.old.tables said → Well said → (after : Registry)
         × IsEntryAdded (entry_of records.old.tables.entries.items records.old.tables.files.items value) said after × Represents page records.new.tables after) }
     ensures slots { IfOk result (λ slot. AddsEntry records.old.tables records.new.tables slot value) }
-    ensures taken { (page : ℕ → List ℕ) (said : Registry) → Represents page records.old.tables said → (result ≡ Err AddRefusal.Taken ↔ IsTaken said value.aid) }
+    ensures taken { (page : ℕ → List ℕ) (said : Registry) → Represents page records.old.tables said → (result ≡ Err AddRefusal.Taken ↔ IsAidTaken said value.aid) }
     ensures full { (page : ℕ → List ℕ) (said : Registry) → Represents page records.old.tables said
-        → (result ≡ Err AddRefusal.Full ↔ ((¬ IsTaken said value.aid) × (length said.entries ≡ ENTRIES))) }
+        → (result ≡ Err AddRefusal.Full ↔ ((¬ IsAidTaken said value.aid) × (length said.entries ≡ ENTRIES))) }
     ensures unchanged { OnErr result (records.new ≡ records.old) }
     ensures same { (records.new.flash ≡ records.old.flash) × (records.new.live ≡ true) }
     ensures staged { IfOk result (λ slot. records.new.staged ≡ with_staged records.old.staged (entry_page slot)) }
@@ -69,8 +69,8 @@ pub fn add_entry<F: Flash>(records: &mut Records<F>, value: Entry) -> Result<u8,
 /// Puts the entry in a slot into another life cycle state, or sets its lock mark. It commits nothing.
 pub fn set_life<F: Flash>(records: &mut Records<F>, slot: u8, life: LifeMark)
     requires live { records.old.live ≡ true }
-    requires slot { IsSome (held records.old.tables.entries.items slot) }
-    requires room { HasRoomFor entry_pages records.old.staged }
+    requires slot { IsSome (thing_in records.old.tables.entries.items slot) }
+    requires room { HasFramesFor entry_pages records.old.staged }
     ensures said { (page : ℕ → List ℕ) (said : Registry) → Represents page records.old.tables said
         → Represents page records.new.tables (with_life said (domain_aid records.old.tables.entries.items slot) life) }
     ensures slots { ChangesEntry records.old.tables records.new.tables slot (λ entry. record entry { life = life }) }
@@ -86,8 +86,8 @@ pub fn set_life<F: Flash>(records: &mut Records<F>, slot: u8, life: LifeMark)
 /// Sets the number of the last receipt of the entry in a slot. It commits nothing.
 pub fn set_receipts<F: Flash>(records: &mut Records<F>, slot: u8, number: u16)
     requires live { records.old.live ≡ true }
-    requires slot { IsSome (held records.old.tables.entries.items slot) }
-    requires room { HasRoomFor entry_pages records.old.staged }
+    requires slot { IsSome (thing_in records.old.tables.entries.items slot) }
+    requires room { HasFramesFor entry_pages records.old.staged }
     ensures said { (page : ℕ → List ℕ) (said : Registry) → Represents page records.old.tables said
         → Represents page records.new.tables (with_receipts said (domain_aid records.old.tables.entries.items slot) number) }
     ensures slots { ChangesEntry records.old.tables records.new.tables slot (λ entry. record entry { receipts = number }) }

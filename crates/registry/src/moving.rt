@@ -1,7 +1,7 @@
 //! Extradition: a thing goes to another security domain (GlobalPlatform Card Specification 2.3.1, 9.4.1).
 
 ghost use Rattle.std.specs.Prelude.{◌≡◌, ℕ, List, true, Some, IsSome};
-ghost use Rattle.registry.specs.Prelude.{HasRoomFor, KeepsRoom, Moves, Registry, Represents, Well, aid_of, domain_aid, held, moved, thing_page, thing_pages, with_staged};
+ghost use Rattle.registry.specs.Prelude.{HasFramesFor, KeepsRoom, Moves, Registry, Represents, Well, aid_of, domain_aid, thing_in, thing_page, thing_pages, with_staged, with_thing_in_domain};
 
 use crate::entries::put_entry;
 use card_types::{Found, in_slot};
@@ -12,10 +12,10 @@ use rec_store::Records;
 pub fn move_to<F: Flash>(records: &mut Records<F>, thing: Found, domain: u8)
     requires live { records.old.live ≡ true }
     requires slot { IsSome (aid_of records.old.tables thing) }
-    requires domain { IsSome (held records.old.tables.entries.items domain) }
-    requires room { HasRoomFor (thing_pages thing) records.old.staged }
+    requires domain { IsSome (thing_in records.old.tables.entries.items domain) }
+    requires room { HasFramesFor (thing_pages thing) records.old.staged }
     ensures said { (page : ℕ → List ℕ) (said : Registry) (aid : List ℕ) → aid_of records.old.tables thing ≡ Some aid
-        → Represents page records.old.tables said → Well said → Represents page records.new.tables (moved said aid (domain_aid records.old.tables.entries.items domain)) }
+        → Represents page records.old.tables said → Well said → Represents page records.new.tables (with_thing_in_domain said aid (domain_aid records.old.tables.entries.items domain)) }
     ensures slots { Moves records.old.tables records.new.tables thing domain }
     ensures same { (records.new.flash ≡ records.old.flash) × (records.new.live ≡ true) }
     ensures staged { records.new.staged ≡ with_staged records.old.staged (thing_page thing) }

@@ -1,7 +1,7 @@
 //! What one thing owns, in slots of one kind (GlobalPlatform Card Specification 2.3.1, 9.5).
 
 ghost use Rattle.std.specs.Prelude.{◌≡◌, ◌<◌, ℕ, List, Option, true, None, length, map, slice_set};
-ghost use Rattle.registry.specs.Prelude.{HasRoomFor, KeepsRoom, StagesChanged, TableLists, freed, held, is_owned, with_staged};
+ghost use Rattle.registry.specs.Prelude.{HasFramesFor, KeepsRoom, StagesChanged, TableLists, is_owned, slot_without, thing_in, with_staged};
 ghost use Rattle.card_types.specs.declared.tables.Tables.{Tables};
 
 use card_types::in_slot;
@@ -42,7 +42,7 @@ pub trait Owned: Sized {
     fn free<F: Flash>(records: &mut Records<F>, slot: u8)
         requires live { records.old.live ≡ true }
         requires range { slot < COUNT }
-        requires room { HasRoomFor pages records.old.staged }
+        requires room { HasFramesFor pages records.old.staged }
         ensures slots { slots records.new.tables ≡ slice_set (slots records.old.tables) slot None }
         ensures rest { rest records.new.tables ≡ rest records.old.tables }
         ensures same { (records.new.flash ≡ records.old.flash) × (records.new.live ≡ true) }
@@ -53,7 +53,7 @@ pub trait Owned: Sized {
 }
 
 fn is_of<T: Owned>(slots: &[Option<T>], slot: u8, owner: u8) -> bool
-    ensures { result ≡ is_owned T.owner owner (held slots.now slot) }
+    ensures { result ≡ is_owned T.owner owner (thing_in slots.now slot) }
 {
     match in_slot(slots, slot) {
         Some(thing) => thing.owner() == owner,
@@ -64,8 +64,8 @@ fn is_of<T: Owned>(slots: &[Option<T>], slot: u8, owner: u8) -> bool
 /// Frees the slots of what one thing owns. It commits nothing.
 pub fn free_owned<F: Flash, T: Owned>(records: &mut Records<F>, owner: u8)
     requires live { records.old.live ≡ true }
-    requires room { HasRoomFor T.pages records.old.staged }
-    ensures freed { T.slots records.new.tables ≡ map (freed T.owner owner) (T.slots records.old.tables) }
+    requires room { HasFramesFor T.pages records.old.staged }
+    ensures freed { T.slots records.new.tables ≡ map (slot_without T.owner owner) (T.slots records.old.tables) }
     ensures rest { T.rest records.new.tables ≡ T.rest records.old.tables }
     ensures same { (records.new.flash ≡ records.old.flash) × (records.new.live ≡ true) }
     ensures staged { StagesChanged T.page (T.slots records.old.tables) (T.slots records.new.tables) records.old.staged records.new.staged }

@@ -1,7 +1,7 @@
 //! An entry is removed, with the keys and data objects that it owns (GlobalPlatform Card Specification 2.3.1, 9.5).
 
 ghost use Rattle.std.specs.Prelude.{◌≡◌, ℕ, List, true, IsSome};
-ghost use Rattle.registry.specs.Prelude.{HasRoomFor, IsNoDomain, KeepsRoom, Registry, RemovesEntry, Represents, StagesOwned, Well, domain_aid, held, owner_pages, without_entry};
+ghost use Rattle.registry.specs.Prelude.{HasFramesFor, IsNoDomain, KeepsRoom, Registry, RemovesEntry, Represents, StagesOwned, Well, domain_aid, owner_pages, thing_in, without_entry};
 
 use crate::owned::free_owned;
 use card_types::{KeyRec, Object};
@@ -12,9 +12,9 @@ use rec_store::Records;
 /// nothing.
 pub fn remove_entry<F: Flash>(records: &mut Records<F>, slot: u8)
     requires live { records.old.live ≡ true }
-    requires slot { IsSome (held records.old.tables.entries.items slot) }
+    requires slot { IsSome (thing_in records.old.tables.entries.items slot) }
     requires alone { IsNoDomain records.old.tables slot }
-    requires room { HasRoomFor owner_pages records.old.staged }
+    requires room { HasFramesFor owner_pages records.old.staged }
     ensures said { (page : ℕ → List ℕ) (said : Registry) → Represents page records.old.tables said → Well said
         → Represents page records.new.tables (without_entry said (domain_aid records.old.tables.entries.items slot)) }
     ensures slots { RemovesEntry records.old.tables records.new.tables slot }

@@ -7,7 +7,7 @@ use Rattle.cmac_kdf.specs.Blocks.{zero_block}
 use Rattle.cmac_kdf.specs.Cmac.{cmac}
 use Rattle.cmac_kdf.specs.Derivation.{kdf}
 use Rattle.scp03_card.specs.Offer.{Offer, context, s_enc, s_mac, s_rmac, card_cryptogram, counter_bytes, host_cryptogram}
-use Rattle.scp03_card.specs.Session.{answered, chain, chain_of}
+use Rattle.scp03_card.specs.Session.{chain, chain_of, session_from}
 use Rattle.scp03_card.specs.Kept.{HasSessionKeys, Keys}
 
 module _ (keys : Keys) (offer : Offer) (has : HasSessionKeys keys offer) where
@@ -21,7 +21,7 @@ module _ (keys : Keys) (offer : Offer) (has : HasSessionKeys keys offer) where
 
   -- the chaining value after EXTERNAL AUTHENTICATE
   pub kept_first_chain : (level : Level) (c x : List ℕ) → x ≡ host_cryptogram offer → c ≡ code_of level ∷ []
-      → cmac keys.mac (zero_block ++ (0x84 ∷ 0x82 ∷ c ++ 0x00 ∷ 0x10 ∷ []) ++ x) ≡ chain_of (answered offer level)
+      → cmac keys.mac (zero_block ++ (0x84 ∷ 0x82 ∷ c ++ 0x00 ∷ 0x10 ∷ []) ++ x) ≡ chain_of (session_from offer level)
   unfolding chain
   kept_first_chain level c x ex ec = (λ i. cmac (has.mac i) (zero_block ++ (0x84 ∷ 0x82 ∷ ec i ++ 0x00 ∷ 0x10 ∷ []) ++ ex i))
 

@@ -11,9 +11,9 @@ use Rattle.cmac_kdf.specs.Cbc.{sealed}
 use Rattle.cmac_kdf.specs.Cmac.{cmac}
 use Rattle.scp03_card.specs.Levels.{has_r_mac, has_r_encryption}
 use Rattle.scp03_card.specs.Offer.{s_mac}
-use Rattle.scp03_card.specs.Session.{Session, chain, chain_of, message, number, with_message}
+use Rattle.scp03_card.specs.Session.{Session, chain, chain_of, message, message_number, with_message}
 use Rattle.scp03_card.specs.Opens.{command_icv}
-use Rattle.scp03_card.specs.Protected.{is_success_or_warning, protected, r_mac, reply_field, reply_icv, with_r_mac}
+use Rattle.scp03_card.specs.Protected.{is_success_or_warning, r_mac, reply_field, reply_icv, session_reply, with_r_mac}
 use Rattle.scp03_card.specs.Kept.{HasSessionKeys, Keys, KeptSession, RepresentsSession}
 
 -- the chaining value after one more message
@@ -40,12 +40,12 @@ module _ (kept : KeptSession) (session : Session) (stands : RepresentsSession ke
       (ex ∙ (λ i. sealed (stands.keys.enc i) (cipher (stands.keys.enc i) (0x80 ∷ drop 1 (to_be_bytes w128 (stands.number i)))) (b ∷ bs)))
 
   -- the number of the next message
-  pub kept_next_number : (m : List ℕ) (n : ℕ) → n ≡ (kept.number + 1) % 2 ^ 128 → n ≡ number (with_message session m)
+  pub kept_next_number : (m : List ℕ) (n : ℕ) → n ≡ (kept.number + 1) % 2 ^ 128 → n ≡ message_number (with_message session m)
   kept_next_number m n en =
       omega (arith, stands.started, stands.number, length-append session.messages (m ∷ []))
 
 -- the initial chaining vector of a command
-pub command_icv_of : (keys : Keys) (session : Session) (n : ℕ) → HasSessionKeys keys session.offer → n ≡ number session
+pub command_icv_of : (keys : Keys) (session : Session) (n : ℕ) → HasSessionKeys keys session.offer → n ≡ message_number session
     → cipher keys.enc (to_be_bytes w128 n) ≡ command_icv session
 unfolding command_icv
 command_icv_of keys session n has en = (λ i. cipher (has.enc i) (to_be_bytes w128 (en i)))
@@ -53,14 +53,14 @@ command_icv_of keys session n has en = (λ i. cipher (has.enc i) (to_be_bytes w1
 -- ---- the cases of a reply
 
 module _ (session : Session) (body : List ℕ) (status : ℕ) where
-  pub protected_plain : has_r_mac session.level ≡ false → body ++ status_bytes status ≡ protected session body status
+  pub protected_plain : has_r_mac session.level ≡ false → body ++ status_bytes status ≡ session_reply session body status
   protected_plain e = rw (e) refl
 
-  pub protected_error : has_r_mac session.level ≡ true → is_success_or_warning status ≡ false → status_bytes status ≡ protected session body status
+  pub protected_error : has_r_mac session.level ≡ true → is_success_or_warning status ≡ false → status_bytes status ≡ session_reply session body status
   protected_error e f = rw (e, f) refl
 
   pub protected_whole : has_r_mac session.level ≡ true → is_success_or_warning status ≡ true
-      → with_r_mac session (reply_field session body) status ≡ protected session body status
+      → with_r_mac session (reply_field session body) status ≡ session_reply session body status
   protected_whole e f = rw (e, f) refl
 
 -- a reply field that stays
@@ -77,6 +77,6 @@ abbrev pub header_of : Apdu → List ℕ → List ℕ
 header_of command field = command.class / 4 * 4 ∷ command.ins ∷ command.p1 ∷ command.p2 ∷ (length field + 8) ∷ []
 
 -- a message is the header and the data field
-pub message_behind : (chaining : List ℕ) (command : Apdu) (field : List ℕ) → (chaining ++ header_of command field) ++ field ≡ chaining ++ message command field
+pub message_after : (chaining : List ℕ) (command : Apdu) (field : List ℕ) → (chaining ++ header_of command field) ++ field ≡ chaining ++ message command field
 unfolding message
-message_behind chaining command field = append_assoc chaining (header_of command field) field
+message_after chaining command field = append_assoc chaining (header_of command field) field

@@ -3,7 +3,7 @@
 use Rattle.std.specs.Prelude.{◌≡◌, ℕ, ◌<◌, List, length}
 use Rattle.card_types.specs.declared.level.Level.{Level}
 use Rattle.scp03_card.specs.Offer.{Offer, s_enc, s_mac, s_rmac}
-use Rattle.scp03_card.specs.Session.{Session, chain_of, number}
+use Rattle.scp03_card.specs.Session.{Session, chain_of, message_number}
 
 -- the session keys, and Key-DEK
 pub record Keys : Type 0 where
@@ -41,4 +41,4 @@ pub record RepresentsSession (kept : KeptSession) (session : Session) : Type 0 w
   pub level : kept.level ≡ session.level
   pub started : 0 < length session.messages
   pub chain : kept.chain ≡ chain_of session
-  pub number : kept.number ≡ number session
+  pub number : kept.number ≡ message_number session

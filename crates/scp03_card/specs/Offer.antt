@@ -20,8 +20,8 @@ unfoldable pub card_challenge : List ℕ → ℕ → List ℕ → List ℕ
 card_challenge enc counter aid = kdf enc 0x02 64 (counter_bytes counter ++ aid)
 
 -- the offer that INITIALIZE UPDATE makes
-abbrev pub offered : (enc mac dek : List ℕ) (counter : ℕ) (aid host : List ℕ) → Offer
-offered enc mac dek counter aid host =
+abbrev pub new_offer : (enc mac dek : List ℕ) (counter : ℕ) (aid host : List ℕ) → Offer
+new_offer enc mac dek counter aid host =
     record { enc = enc; mac = mac; dek = dek; host = host; card = card_challenge enc counter aid }
 
 -- the context of the derivations that follow: the host challenge and the card challenge (6.2.1)

@@ -7,7 +7,7 @@ use Rattle.cmac_kdf.specs.Blocks.{IsBytes}
 use Rattle.cmac_kdf.specs.Cbc.{sealed}
 use Rattle.scp03_card.specs.Levels.{has_c_decryption}
 use Rattle.scp03_card.specs.Offer.{s_enc}
-use Rattle.scp03_card.specs.Session.{Session, c_mac, message, number, with_message}
+use Rattle.scp03_card.specs.Session.{Session, c_mac, message, message_number, with_message}
 
 -- the data field as it was sent: the body without the C-MAC, its last eight bytes
 abbrev pub field_of : Apdu → List ℕ
@@ -23,7 +23,7 @@ IsAuthentic session command = command.body ≡ field_of command ++ c_mac (accept
 
 -- the initial chaining vector for the command of a session's last message: its number in sixteen bytes, enciphered (6.2.6)
 unfoldable pub command_icv : Session → List ℕ
-command_icv session = cipher (s_enc session.offer) (to_be_bytes w128 (number session))
+command_icv session = cipher (s_enc session.offer) (to_be_bytes w128 (message_number session))
 
 -- a field that is not empty, with C-DECRYPTION or without
 abbrev pub GivesBy : Bool → Session → List ℕ → List ℕ → Type 0

@@ -34,8 +34,8 @@ abbrev pub c_mac : Session → List ℕ
 c_mac session = take 8 (chain_of session)
 
 -- the number of a session's last message, in 128 bits: that of EXTERNAL AUTHENTICATE is 0 (6.2.6)
-abbrev pub number : Session → ℕ
-number session = (length session.messages - 1) % 2 ^ 128
+abbrev pub message_number : Session → ℕ
+message_number session = (length session.messages - 1) % 2 ^ 128
 
 -- the session with one more message
 abbrev pub with_message : Session → List ℕ → Session
@@ -46,8 +46,8 @@ abbrev pub authentication : Offer → Level → List ℕ
 authentication offer level = 0x84 ∷ 0x82 ∷ code_of level ∷ 0x00 ∷ 0x10 ∷ host_cryptogram offer
 
 -- the session that an offer becomes which is answered at a level
-abbrev pub answered : Offer → Level → Session
-answered offer level = record { offer = offer; level = level; messages = authentication offer level ∷ [] }
+abbrev pub session_from : Offer → Level → Session
+session_from offer level = record { offer = offer; level = level; messages = authentication offer level ∷ [] }
 
 -- the body of EXTERNAL AUTHENTICATE begins with the host cryptogram
 abbrev pub HasCryptogram : Offer → List ℕ → Type 0
@@ -55,4 +55,4 @@ HasCryptogram offer body = take 8 body ≡ host_cryptogram offer
 
 -- the body of EXTERNAL AUTHENTICATE ends in the C-MAC
 abbrev pub HasMac : Offer → Level → List ℕ → Type 0
-HasMac offer level body = drop 8 body ≡ c_mac (answered offer level)
+HasMac offer level body = drop 8 body ≡ c_mac (session_from offer level)

@@ -5,7 +5,7 @@ ghost use Rattle.aes_block.specs.Cipher.{cipher};
 ghost use Rattle.arrayvec.specs.ArrayVec.{array_vec_len};
 ghost use Rattle.cmac_kdf.specs.Cbc.{sealed};
 ghost use Rattle.scp03_card.specs.Kept.{RepresentsSession};
-ghost use Rattle.scp03_card.specs.Protected.{protected, reply_field};
+ghost use Rattle.scp03_card.specs.Protected.{reply_field, session_reply};
 ghost use Rattle.scp03_card.specs.Session as model;
 ghost use Rattle.scp03_card.specs.declared.close.TheConstants.{DATA_LIMIT};
 
@@ -26,7 +26,7 @@ impl<K: BlockKey> Session<K> {
     /// field.
     pub fn close_reply(&mut self, reply: &mut ArrayVec<u8, 258>, status: Status)
         requires { array_vec_len reply.old ≤ DATA_LIMIT }
-        ensures protected { (session : model.Session) → RepresentsSession self.old session → reply.new.items ≡ protected session reply.old.items status.0 }
+        ensures protected { (session : model.Session) → RepresentsSession self.old session → reply.new.items ≡ session_reply session reply.old.items status.0 }
         ensures unchanged { self.new ≡ self.old }
     {
         let sw = status.to_bytes();

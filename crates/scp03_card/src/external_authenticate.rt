@@ -3,7 +3,7 @@
 ghost use Rattle.std.specs.Prelude.{◌≡◌, IfOk, IsOk, OnOk};
 ghost use Rattle.scp03_card.specs.Kept.{RepresentsSession, RepresentsOffer};
 ghost use Rattle.scp03_card.specs.Offer as model;
-ghost use Rattle.scp03_card.specs.Session.{HasCryptogram, HasMac, answered};
+ghost use Rattle.scp03_card.specs.Session.{HasCryptogram, HasMac, session_from};
 
 use crate::card_offer::Offer;
 use crate::eight_bytes::same;
@@ -16,7 +16,7 @@ impl<K: BlockKey> Offer<K> {
     /// Judges the host's answer at this level: `body` is that of EXTERNAL AUTHENTICATE. The offer is
     /// spent.
     pub fn authenticate(self, level: Level, body: &[u8; 16]) -> Result<Session<K>, AuthRefusal>
-        ensures ok { (offer : model.Offer) → RepresentsOffer self offer → IfOk result (λ kept. RepresentsSession kept (answered offer level)) }
+        ensures ok { (offer : model.Offer) → RepresentsOffer self offer → IfOk result (λ kept. RepresentsSession kept (session_from offer level)) }
         ensures cryptogram_right { (offer : model.Offer) → RepresentsOffer self offer → OnOk result (HasCryptogram offer body.now) }
         ensures mac_right { (offer : model.Offer) → RepresentsOffer self offer → OnOk result (HasMac offer level body.now) }
         ensures back { (offer : model.Offer) → RepresentsOffer self offer → HasCryptogram offer body.now → HasMac offer level body.now → IsOk result }

@@ -2,7 +2,7 @@
 
 ghost use Rattle.std.specs.Prelude.{◌≡◌, ◌≤◌};
 ghost use Rattle.scp03_card.specs.Kept.{RepresentsOffer};
-ghost use Rattle.scp03_card.specs.Offer.{offered};
+ghost use Rattle.scp03_card.specs.Offer.{new_offer};
 ghost use Rattle.scp03_card.specs.Offer as standard;
 
 use crate::card_offer::Offer;
@@ -20,7 +20,7 @@ const CARD_CHALLENGE: u8 = 0x02;
 /// key set, and `aid` is selected.
 pub fn offer<K: BlockKey>(keys: StaticKeys<K>, counter: u32, aid: &Aid, host: &[u8; 8]) -> Offer<K>
     requires { counter ≤ 0xFFFFFF }
-    ensures { RepresentsOffer result (offered (K.key_bytes keys.enc) (K.key_bytes keys.mac) (K.key_bytes keys.dek) counter aid.now host.now) }
+    ensures { RepresentsOffer result (new_offer (K.key_bytes keys.enc) (K.key_bytes keys.mac) (K.key_bytes keys.dek) counter aid.now host.now) }
 {
     let StaticKeys { enc, mac, dek } = keys;
     let enc = CmacKey::new(enc);

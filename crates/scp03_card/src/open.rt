@@ -85,9 +85,9 @@ fn plain_field<K: BlockKey>(
     plain: &mut [u8; 255],
 ) -> Option<usize>
     requires { length field.now ≤ 255 }
-    ensures some { (session : model.Session) → HasSessionKeys keys.now session.offer → level ≡ session.level → number ≡ model.number session
+    ensures some { (session : model.Session) → HasSessionKeys keys.now session.offer → level ≡ session.level → number ≡ model.message_number session
         → IfSome result (λ n. Gives session field.now (take n plain.new)) }
-    ensures none { (session : model.Session) → HasSessionKeys keys.now session.offer → level ≡ session.level → number ≡ model.number session
+    ensures none { (session : model.Session) → HasSessionKeys keys.now session.offer → level ≡ session.level → number ≡ model.message_number session
         → IfNone result ((p : List ℕ) → Gives session field.now p → ⊥) }
     ensures length { IfSome result (λ n. n ≤ length field.now) }
 {
@@ -103,9 +103,9 @@ fn decipher<K: BlockKey>(
     number: u128,
     field: &mut [u8],
 ) -> Option<usize>
-    ensures some { (session : model.Session) → HasSessionKeys keys.now session.offer → level ≡ session.level → number ≡ model.number session
+    ensures some { (session : model.Session) → HasSessionKeys keys.now session.offer → level ≡ session.level → number ≡ model.message_number session
         → IfSome result (λ n. Gives session field.old (take n field.new)) }
-    ensures none { (session : model.Session) → HasSessionKeys keys.now session.offer → level ≡ session.level → number ≡ model.number session
+    ensures none { (session : model.Session) → HasSessionKeys keys.now session.offer → level ≡ session.level → number ≡ model.message_number session
         → IfNone result ((p : List ℕ) → Gives session field.old p → ⊥) }
     ensures length { IfSome result (λ n. n ≤ length field.old) }
 {

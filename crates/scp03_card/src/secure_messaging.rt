@@ -8,7 +8,7 @@ ghost use Rattle.cmac_kdf.specs.Cmac.{cmac};
 ghost use Rattle.scp03_card.specs.Kept.{HasSessionKeys};
 ghost use Rattle.scp03_card.specs.Offer as model;
 ghost use Rattle.scp03_card.specs.Offer.{host_cryptogram};
-ghost use Rattle.scp03_card.specs.Session.{answered, chain_of};
+ghost use Rattle.scp03_card.specs.Session.{chain_of, session_from};
 
 use crate::session_keys::SessionKeys;
 use aes_block::BlockKey;
@@ -31,7 +31,7 @@ impl<K: BlockKey> SessionKeys<K> {
     /// The MAC chaining value after EXTERNAL AUTHENTICATE at this level, with this host cryptogram.
     pub fn first_chain(&self, level: Level, cryptogram: &[u8; 8]) -> [u8; 16]
         ensures { (offer : model.Offer) → HasSessionKeys self.now offer → cryptogram.now ≡ host_cryptogram offer
-            → result ≡ chain_of (answered offer level) }
+            → result ≡ chain_of (session_from offer level) }
     {
         let header = [0x84, 0x82, level.code(), 0x00, 0x10];
         self.chain_after(&[0; 16], &header, cryptogram)

@@ -14,14 +14,14 @@ use Rattle.cmac_kdf.proofs.CbcLemmas.{length-sealed}
 use Rattle.scp03_card.specs.Levels.{has_c_decryption, has_r_mac}
 use Rattle.scp03_card.specs.Offer.{host_cryptogram, s_enc}
 use Rattle.scp03_card.specs.Opens.{Gives, Opens, accepting, command_icv, field_of}
-use Rattle.scp03_card.specs.Protected.{is_success_or_warning, protected, r_mac, reply_field}
-use Rattle.scp03_card.specs.Session.{Session, answered, c_mac, message, with_message}
+use Rattle.scp03_card.specs.Protected.{is_success_or_warning, r_mac, reply_field, session_reply}
+use Rattle.scp03_card.specs.Session.{Session, c_mac, message, session_from, with_message}
 use Rattle.scp03_card.proofs.GivesLemmas.{gives_itself, gives_sealed}
 use Rattle.scp03_card.proofs.Lengths.{authentic_sent, field_sent, length-c_mac, length-host_cryptogram}
 use Rattle.scp03_card.proofs.SessionLemmas.{protected_error}
 use Rattle.scp03_host.specs.Agreement.{BeginAgreeing, GoOnAgreeing, IsExchange, OnePlainReply, told_field}
 use Rattle.scp03_host.specs.Unwrapped.{Unwraps, is_status_alone}
-use Rattle.scp03_host.specs.Wrapped.{as_sent, having_sent, message_of, next_icv, sent_field, wrapped}
+use Rattle.scp03_host.specs.Wrapped.{as_sent, having_sent, message_of, next_icv, sent_field, wrapped_command}
 use Rattle.scp03_host.proofs.ReplyLemmas.{error, error_alone, front, kind, length-r_mac, one_reply_field, plain, plain_parts, protected_front, whole, whole_parts}
 use Rattle.scp03_host.proofs.SentLemmas.{number_of_next, sent_clear, sent_sealed}
 
@@ -50,33 +50,33 @@ gives_body session m (b ∷ bs) bytes = elim (cases_Bool (has_c_decryption sessi
 ]
 
 module _ (session : Session) (command : Apdu) (channel : ℕ) (small : channel < 4) (bytes : IsBytes command.body) where
-  field_is : field_of (wrapped session command channel) ≡ sent_field session command.body
+  field_is : field_of (wrapped_command session command channel) ≡ sent_field session command.body
   field_is =
-      field_sent (wrapped session command channel) (sent_field session command.body) (c_mac (having_sent session command)) refl
+      field_sent (wrapped_command session command channel) (sent_field session command.body) (c_mac (having_sent session command)) refl
       (length-c_mac session (message_of session command))
 
-  pub accepting_is : accepting session (wrapped session command channel) ≡ having_sent session command
+  pub accepting_is : accepting session (wrapped_command session command channel) ≡ having_sent session command
   accepting_is =
       ap (with_message session)
-      (ap (message (wrapped session command channel)) field_is
+      (ap (message (wrapped_command session command channel)) field_is
       ∙ same_message session command channel (sent_field session command.body ++ c_mac (having_sent session command)) small)
 
-  pub opens_sent : Opens session (wrapped session command channel) command.body
+  pub opens_sent : Opens session (wrapped_command session command channel) command.body
   opens_sent =
       let joined = same_message session command channel (sent_field session command.body ++ c_mac (having_sent session command)) small in
       record {
         authentic =
-            authentic_sent session (wrapped session command channel) (sent_field session command.body)
+            authentic_sent session (wrapped_command session command channel) (sent_field session command.body)
             (λ i. sent_field session command.body ++ c_mac (with_message session (sym joined i)));
         gives =
-            subst (λ (f : List ℕ). Gives (accepting session (wrapped session command channel)) f command.body) (sym field_is)
+            subst (λ (f : List ℕ). Gives (accepting session (wrapped_command session command channel)) f command.body) (sym field_is)
             (subst (λ (s : Session). Gives s (sent_field session command.body) command.body) (sym accepting_is)
             (gives_body session (message_of session command) command.body bytes));
       }
 
 -- what the card answers gives the host what it is to be told
 pub told_unwraps : (session : Session) (body : List ℕ) (status : ℕ) → IsBytes body → status < 2 ^ 16
-    → Unwraps session (protected session body status) (told_field session body status) status
+    → Unwraps session (session_reply session body status) (told_field session body status) status
 told_unwraps session body status bytes word = elim (cases_Bool (is_status_alone session status)) [
   | inl a ↦
       let none : told_field session body status ≡ [] = rw (a) refl in
@@ -84,7 +84,7 @@ told_unwraps session body status bytes word = elim (cases_Bool (is_status_alone 
       let error = not-true (is_success_or_warning status) both.1 in
       record {
         sent =
-            ap (λ (b : List ℕ). protected session b status) none
+            ap (λ (b : List ℕ). session_reply session b status) none
             ∙ sym (protected_error session [] status both.0 error) ∙ protected_error session body status both.0 error;
         bytes = subst IsBytes (sym none) (record { at = λ j. omega arith });
         word = word;
@@ -93,7 +93,7 @@ told_unwraps session body status bytes word = elim (cases_Bool (is_status_alone 
   | inr f ↦
       let whole : told_field session body status ≡ body = rw (f) refl in
       record {
-        sent = ap (λ (b : List ℕ). protected session b status) whole;
+        sent = ap (λ (b : List ℕ). session_reply session b status) whole;
         bytes = subst IsBytes (sym whole) bytes;
         word = word;
         alone = λ a. absurd (true≢false (sym a ∙ f));
@@ -114,8 +114,8 @@ go_on_agreeing session (first ∷ rest) all =
 
 pub begin_agreeing : BeginAgreeing
 begin_agreeing offer level channel = (
-  take_at (host_cryptogram offer) (c_mac (answered offer level)) 8 (length-host_cryptogram offer),
-  drop_at (host_cryptogram offer) (c_mac (answered offer level)) 8 (length-host_cryptogram offer),
+  take_at (host_cryptogram offer) (c_mac (session_from offer level)) 8 (length-host_cryptogram offer),
+  drop_at (host_cryptogram offer) (c_mac (session_from offer level)) 8 (length-host_cryptogram offer),
 )
 
 pub one_plain_reply : OnePlainReply

@@ -17,7 +17,7 @@ use Rattle.cmac_kdf.proofs.CmacLemmas.{cmac_is_block}
 use Rattle.scp03_card.specs.Kept.{KeptSession, RepresentsSession}
 use Rattle.scp03_card.specs.Levels.{has_r_mac, has_r_encryption}
 use Rattle.scp03_card.specs.Offer.{s_enc, s_rmac}
-use Rattle.scp03_card.specs.Protected.{is_success_or_warning, protected, r_mac, reply_field, reply_icv}
+use Rattle.scp03_card.specs.Protected.{is_success_or_warning, r_mac, reply_field, reply_icv, session_reply}
 use Rattle.scp03_card.proofs.ListLemmas.{IsBytes-take}
 use Rattle.scp03_card.proofs.SessionLemmas.{protected_error, protected_plain, protected_whole, reply_field_clear}
 use Rattle.scp03_card.specs.Session.{Session, chain_of}
@@ -91,7 +91,7 @@ kind false success = plain refl
 kind true false = error refl refl
 kind true true = whole refl refl
 
-pub protected_front : (session : Session) (body : List ℕ) (status : ℕ) → protected session body status ≡ front session body status ++ status_bytes status
+pub protected_front : (session : Session) (body : List ℕ) (status : ℕ) → session_reply session body status ≡ front session body status ++ status_bytes status
 protected_front session body status = elim (kind (has_r_mac session.level) (is_success_or_warning status)) [
   | plain m ↦ rw (m) refl
   | error m s ↦ rw (m, s) refl

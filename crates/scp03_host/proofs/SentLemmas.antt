@@ -7,11 +7,11 @@ use Rattle.cmac_kdf.specs.Cbc.{sealed}
 use Rattle.scp03_card.specs.Kept.{HasSessionKeys, Keys}
 use Rattle.scp03_card.specs.Levels.{has_c_decryption}
 use Rattle.scp03_card.specs.Offer.{s_enc}
-use Rattle.scp03_card.specs.Session.{Session, number, with_message}
-use Rattle.scp03_host.specs.Wrapped.{next_icv, next_number, sent_field}
+use Rattle.scp03_card.specs.Session.{Session, message_number, with_message}
+use Rattle.scp03_host.specs.Wrapped.{next_icv, next_message, sent_field}
 
 -- the number of the message after the others
-pub number_of_next : (session : Session) (m : List ℕ) → number (with_message session m) ≡ next_number session
+pub number_of_next : (session : Session) (m : List ℕ) → message_number (with_message session m) ≡ next_message session
 number_of_next session m = omega (arith, length-append session.messages (m ∷ []))
 
 pub sent_sealed : (session : Session) (body : List ℕ) → 0 < length body → has_c_decryption session.level ≡ true
@@ -28,7 +28,7 @@ sent_none session [] e = refl
 sent_none session (b ∷ bs) e = absurd (omega arith)
 
 -- a field that is enciphered under what is kept
-pub kept_sent : (keys : Keys) (session : Session) (n : ℕ) (body : List ℕ) → HasSessionKeys keys session.offer → n ≡ next_number session
+pub kept_sent : (keys : Keys) (session : Session) (n : ℕ) (body : List ℕ) → HasSessionKeys keys session.offer → n ≡ next_message session
     → 0 < length body → has_c_decryption session.level ≡ true
     → sealed keys.enc (cipher keys.enc (to_be_bytes w128 n)) body ≡ sent_field session body
 unfolding next_icv

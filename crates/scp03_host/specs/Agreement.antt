@@ -6,11 +6,11 @@ use Rattle.cmac_kdf.specs.Blocks.{IsBytes}
 use Rattle.scp03_card.specs.Kept.{KeptSession, RepresentsSession}
 use Rattle.scp03_card.specs.Offer.{Offer}
 use Rattle.scp03_card.specs.Opens.{Opens, accepting}
-use Rattle.scp03_card.specs.Protected.{protected}
+use Rattle.scp03_card.specs.Protected.{session_reply}
 use Rattle.scp03_card.specs.Session.{HasCryptogram, HasMac, Session}
 use Rattle.scp03_host.specs.Begin.{answer_to}
 use Rattle.scp03_host.specs.Unwrapped.{Unwraps, is_status_alone}
-use Rattle.scp03_host.specs.Wrapped.{having_sent, room_for, wrapped}
+use Rattle.scp03_host.specs.Wrapped.{having_sent, room_for, wrapped_command}
 
 -- what a host keeps and what a card keeps stand for one session
 abbrev pub StandFor : KeptSession → KeptSession → Session → Type 0
@@ -38,11 +38,11 @@ told_field session body status = if is_status_alone session status then [] else 
 -- What the host sends opens to the plain data field, and the card then stands for the session that the host stands for; what the
 -- card answers gives the host the plain reply.
 pub record Agrees (session : Session) (exchange : Exchange) : Type 0 where
-  pub opened : Opens session (wrapped session exchange.command exchange.channel) exchange.command.body
-  pub together : accepting session (wrapped session exchange.command exchange.channel) ≡ having_sent session exchange.command
+  pub opened : Opens session (wrapped_command session exchange.command exchange.channel) exchange.command.body
+  pub together : accepting session (wrapped_command session exchange.command exchange.channel) ≡ having_sent session exchange.command
   pub told :
       (let after = having_sent session exchange.command in
-      Unwraps after (protected after exchange.body exchange.status) (told_field after exchange.body exchange.status) exchange.status)
+      Unwraps after (session_reply after exchange.body exchange.status) (told_field after exchange.body exchange.status) exchange.status)
 
 -- host and card agree on these exchanges, one after the other
 abbrev pub AgreesOn : Session → List Exchange → Type 0

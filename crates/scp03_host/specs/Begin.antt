@@ -5,7 +5,7 @@ use Rattle.apdu_core.specs.Apdu.{Apdu}
 use Rattle.card_types.specs.Level.{code_of}
 use Rattle.card_types.specs.declared.level.Level.{Level}
 use Rattle.scp03_card.specs.Offer.{Offer, card_cryptogram, host_cryptogram}
-use Rattle.scp03_card.specs.Session.{answered, c_mac}
+use Rattle.scp03_card.specs.Session.{c_mac, session_from}
 
 -- The data field of the reply has ten bytes of key diversification data, the key version number, the number of the
 -- protocol and its parameter, then the card challenge, the card cryptogram, and the sequence counter: 32 bytes.
@@ -20,8 +20,8 @@ abbrev pub offer_from_reply : (enc mac dek host reply : List ℕ) → Offer
 offer_from_reply enc mac dek host reply = record { enc = enc; mac = mac; dek = dek; host = host; card = challenge_in reply }
 
 -- the card has shown that it has the keys
-abbrev pub IsOfCard : Offer → List ℕ → Type 0
-IsOfCard offer reply = cryptogram_in reply ≡ card_cryptogram offer
+abbrev pub ShowsKeys : Offer → List ℕ → Type 0
+ShowsKeys offer reply = cryptogram_in reply ≡ card_cryptogram offer
 
 -- EXTERNAL AUTHENTICATE, which answers an offer at a level
 abbrev pub answer_to : Offer → Level → ℕ → Apdu
@@ -30,6 +30,6 @@ answer_to offer level channel = record {
   ins = 0x82;
   p1 = code_of level;
   p2 = 0x00;
-  body = host_cryptogram offer ++ c_mac (answered offer level);
+  body = host_cryptogram offer ++ c_mac (session_from offer level);
   le = None;
 }

@@ -4,7 +4,7 @@ use Rattle.std.specs.Prelude.{◌≡◌, ◌⊎◌, ℕ, ◌-◌, ◌^◌, ◌<�
 use Rattle.std.specs.Int.{from_be_bytes, w16}
 use Rattle.cmac_kdf.specs.Blocks.{IsBytes}
 use Rattle.scp03_card.specs.Levels.{has_r_mac}
-use Rattle.scp03_card.specs.Protected.{is_success_or_warning, protected, r_mac}
+use Rattle.scp03_card.specs.Protected.{is_success_or_warning, r_mac, session_reply}
 use Rattle.scp03_card.specs.Session.{Session}
 
 -- with R-MAC an error is its status alone
@@ -13,7 +13,7 @@ is_status_alone session status = has_r_mac session.level && not (is_success_or_w
 
 -- the reply is that of a card to this data field and this status; where the status alone is sent, the data field is empty
 pub record Unwraps (session : Session) (reply body : List ℕ) (status : ℕ) : Type 0 where
-  pub sent : protected session body status ≡ reply
+  pub sent : session_reply session body status ≡ reply
   pub bytes : IsBytes body
   pub word : status < 2 ^ 16
   pub alone : is_status_alone session status ≡ true → body ≡ []

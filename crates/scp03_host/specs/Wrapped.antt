@@ -21,12 +21,12 @@ as_sent command channel body = record {
 }
 
 -- the number that the next message of a session will have, in 128 bits
-abbrev pub next_number : Session → ℕ
-next_number session = length session.messages % 2 ^ 128
+abbrev pub next_message : Session → ℕ
+next_message session = length session.messages % 2 ^ 128
 
 -- the initial chaining vector for the next command: its number in sixteen bytes, enciphered (6.2.6)
 unfoldable pub next_icv : Session → List ℕ
-next_icv session = cipher (s_enc session.offer) (to_be_bytes w128 (next_number session))
+next_icv session = cipher (s_enc session.offer) (to_be_bytes w128 (next_message session))
 
 -- the data field as it is sent: with C-DECRYPTION padded and enciphered where it is not empty (6.2.6)
 abbrev pub sent_field : Session → List ℕ → List ℕ
@@ -43,8 +43,8 @@ abbrev pub having_sent : Session → Apdu → Session
 having_sent session command = with_message session (message_of session command)
 
 -- the protected command on a channel: the data field as it is sent, and the C-MAC (6.2.4)
-abbrev pub wrapped : Session → Apdu → ℕ → Apdu
-wrapped session command channel =
+abbrev pub wrapped_command : Session → Apdu → ℕ → Apdu
+wrapped_command session command channel =
     as_sent command channel (sent_field session command.body ++ c_mac (having_sent session command))
 
 -- how many bytes a plain data field may have, so that with padding and C-MAC the body has at most 255

@@ -4,8 +4,8 @@ ghost use Rattle.std.specs.Prelude.{◌≡◌, ◌≢◌, ◌↔◌, ◌<◌, �
 ghost use Rattle.apdu_core.specs.Apdu.{Short};
 ghost use Rattle.scp03_card.specs.Kept.{RepresentsSession};
 ghost use Rattle.scp03_card.specs.Offer.{Offer, host_cryptogram};
-ghost use Rattle.scp03_card.specs.Session.{answered, chain_of};
-ghost use Rattle.scp03_host.specs.Begin.{IsOfCard, answer_to, offer_from_reply};
+ghost use Rattle.scp03_card.specs.Session.{chain_of, session_from};
+ghost use Rattle.scp03_host.specs.Begin.{ShowsKeys, answer_to, offer_from_reply};
 
 use crate::host_session::HostSession;
 use crate::refusals::BeginRefusal;
@@ -31,12 +31,12 @@ pub fn begin<K: BlockKey>(
 ) -> Result<HostSession<K>, BeginRefusal>
     requires { channel < 4 }
     ensures session { IfOk result (λ kept. RepresentsSession kept
-        (answered (offer_from_reply (K.key_bytes keys.enc) (K.key_bytes keys.mac) (K.key_bytes keys.dek) host.now reply.now) level)) }
+        (session_from (offer_from_reply (K.key_bytes keys.enc) (K.key_bytes keys.mac) (K.key_bytes keys.dek) host.now reply.now) level)) }
     ensures sent { OnOk result (Short
         (answer_to (offer_from_reply (K.key_bytes keys.enc) (K.key_bytes keys.mac) (K.key_bytes keys.dek) host.now reply.now) level channel) out.new.items) }
     ensures short { (result ≡ Err BeginRefusal.Short) ↔ (length reply.now ≢ 32) }
     ensures cryptogram { (result ≡ Err BeginRefusal.CardCryptogram) ↔ (length reply.now ≡ 32)
-        × (IsOfCard (offer_from_reply (K.key_bytes keys.enc) (K.key_bytes keys.mac) (K.key_bytes keys.dek) host.now reply.now) reply.now → ⊥) }
+        × (ShowsKeys (offer_from_reply (K.key_bytes keys.enc) (K.key_bytes keys.mac) (K.key_bytes keys.dek) host.now reply.now) reply.now → ⊥) }
     ensures unchanged { OnErr result (out.new ≡ out.old) }
 {
     if reply.len() != UPDATE_REPLY {
@@ -72,7 +72,7 @@ fn write_answer(
     out: &mut ArrayVec<u8, 261>,
 )
     requires { channel < 4 }
-    ensures { (offer : Offer) → cryptogram.now ≡ host_cryptogram offer → chain.now ≡ chain_of (answered offer level)
+    ensures { (offer : Offer) → cryptogram.now ≡ host_cryptogram offer → chain.now ≡ chain_of (session_from offer level)
         → Short (answer_to offer level channel) out.new.items }
 {
     let body = answer_body(cryptogram, chain);

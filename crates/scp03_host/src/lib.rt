@@ -17,7 +17,7 @@
 //! A session is that of `scp03_card`, by the same definitions: the offer that was answered, a security
 //! level, and the list of the messages that were sent. The code keeps the last chaining value and the
 //! number, and `RepresentsSession` says for which sessions they stand. `specs/` adds what the host sends
-//! (`wrapped`) and what a reply gives it (`Unwraps`).
+//! (`wrapped_command`) and what a reply gives it (`Unwraps`).
 //!
 //! Two ends that stand for one session go on agreeing (`agreement`), at every level and for every key
 //! type. So these two callers are proved from the contracts of both ends:

@@ -6,7 +6,7 @@ ghost use Rattle.scp03_card.specs.Kept.{HasSessionKeys, RepresentsSession};
 ghost use Rattle.scp03_card.specs.Session as model;
 ghost use Rattle.scp03_card.specs.Session.{chain_of};
 ghost use Rattle.scp03_host.specs.Wrapped as standard;
-ghost use Rattle.scp03_host.specs.Wrapped.{having_sent, next_number, sent_field, wrapped};
+ghost use Rattle.scp03_host.specs.Wrapped.{having_sent, next_message, sent_field, wrapped_command};
 
 use crate::host_session::HostSession;
 use crate::refusals::TooLong;
@@ -27,7 +27,7 @@ impl<K: BlockKey> HostSession<K> {
     ) -> Result<(), TooLong>
         requires { channel < 4 }
         ensures sent { (session : model.Session) → RepresentsSession self.old session
-            → OnOk result (Short (wrapped session (apdu_of plain.now) channel) out.new.items) }
+            → OnOk result (Short (wrapped_command session (apdu_of plain.now) channel) out.new.items) }
         ensures accepted { (session : model.Session) → RepresentsSession self.old session → OnOk result (RepresentsSession self.new (having_sent session (apdu_of plain.now))) }
         ensures too_long { (session : model.Session) → RepresentsSession self.old session
             → IsErr result ↔ (standard.room_for session.level < length plain.now.body.now) }
@@ -82,7 +82,7 @@ fn write_field<K: BlockKey>(
     body: &mut [u8; 255],
 ) -> usize
     requires { length field.now ≤ standard.room_for level }
-    ensures field { (session : model.Session) → HasSessionKeys keys.now session.offer → level ≡ session.level → number ≡ next_number session
+    ensures field { (session : model.Session) → HasSessionKeys keys.now session.offer → level ≡ session.level → number ≡ next_message session
         → take result body.new ≡ sent_field session field.now }
     ensures length { result ≤ 247 }
 {

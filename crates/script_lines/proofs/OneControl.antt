@@ -4,8 +4,8 @@ use Rattle.std.specs.Prelude.{◌==◌, if◌then◌else◌}
 use Rattle.apdu_core.specs.declared.reply.Status.{Status}
 use Rattle.script_lines.proofs.OneKey.{first, one_keys, one_tokens}
 use Rattle.script_lines.proofs.OneValue.{one_status}
-use Rattle.script_lines.specs.Channel.{SaysChannel, number_of}
-use Rattle.script_lines.specs.Control.{SayAfterVerb, SaysControl, SaysWant, verb_of}
+use Rattle.script_lines.specs.Channel.{SaysChannel, channel_number}
+use Rattle.script_lines.specs.Control.{SayControl, SaysControl, SaysWant, control_verb}
 use Rattle.script_lines.specs.declared.channel.Channel as channel
 use Rattle.script_lines.specs.declared.channel.Channel.TheVariants.{Basic, First, Second, Third}
 use Rattle.script_lines.specs.declared.control.Control as the_type
@@ -15,7 +15,7 @@ use Rattle.script_lines.specs.declared.tokens.Tokens.TheVariants.{Absent, Made, 
 channel_coded : ℕ → channel.Channel
 channel_coded n = if n == 0 then Basic else if n == 1 then First else if n == 2 then Second else Third
 
-channel_back : (c : channel.Channel) → channel_coded (number_of c) ≡ c
+channel_back : (c : channel.Channel) → channel_coded (channel_number c) ≡ c
 unfolding channel_coded
 channel_back Basic = refl
 channel_back First = refl
@@ -24,8 +24,8 @@ channel_back Third = refl
 
 one_channel : (words : List (List ℕ)) (a b : channel.Channel) → SaysChannel words a → SaysChannel words b → a ≡ b
 one_channel (number ∷ []) a b x y =
-    let codes' : 48 + number_of a ≡ 48 + number_of b = ap (λ l. slice_index l 0) (sym x ∙ y) in
-    let same : number_of a ≡ number_of b = omega (arith, codes') in
+    let codes' : 48 + channel_number a ≡ 48 + channel_number b = ap (λ l. slice_index l 0) (sym x ∙ y) in
+    let same : channel_number a ≡ channel_number b = omega (arith, codes') in
     sym (channel_back a) ∙ ap channel_coded same ∙ channel_back b
 one_channel _ a b x y = absurd x
 
@@ -33,7 +33,7 @@ one_want : (words : List (List ℕ)) (a b : Status) → SaysWant words a → Say
 one_want (status ∷ []) a b x y = one_status status a b x y
 one_want _ a b x y = absurd x
 
-pub begins_control : (words : List (List ℕ)) (c : the_type.Control) → SaysControl words c → first words ≡ verb_of c
+pub begins_control : (words : List (List ℕ)) (c : the_type.Control) → SaysControl words c → first words ≡ control_verb c
 begins_control (verb ∷ words) c x = x.0
 begins_control [] c x = absurd x
 
@@ -48,7 +48,7 @@ letter_of (Keys keys) = 107
 letter_of (Tokens tokens) = 116
 letter_of (Want status) = 119
 
-letter_back : (c : the_type.Control) → letter (verb_of c) ≡ letter_of c
+letter_back : (c : the_type.Control) → letter (control_verb c) ≡ letter_of c
 unfolding letter
 letter_back Reset = refl
 letter_back (Channel channel) = refl
@@ -58,7 +58,7 @@ letter_back (Tokens (Made key)) = refl
 letter_back (Tokens (Damaged key)) = refl
 letter_back (Want status) = refl
 
-one_after : (words : List (List ℕ)) (a b : the_type.Control) → verb_of a ≡ verb_of b → SayAfterVerb words a → SayAfterVerb words b → a ≡ b
+one_after : (words : List (List ℕ)) (a b : the_type.Control) → control_verb a ≡ control_verb b → SayControl words a → SayControl words b → a ≡ b
 one_after words Reset Reset e x y = refl
 one_after words (Channel a) (Channel b) e x y = ap Channel (one_channel words a b x y)
 one_after words (Keys a) (Keys b) e x y = ap Keys (one_keys words a b x y)

@@ -7,8 +7,8 @@ use Rattle.script_lines.proofs.OneControl.{begins_control, one_control}
 use Rattle.script_lines.proofs.OneKey.{first}
 use Rattle.script_lines.proofs.OneVerb.{begins, one_exchange}
 use Rattle.script_lines.specs.Control as controls
-use Rattle.script_lines.specs.Exchange.{verb_of}
-use Rattle.script_lines.specs.Verb.{word_of}
+use Rattle.script_lines.specs.Exchange.{exchange_verb}
+use Rattle.script_lines.specs.Verb.{verb_word}
 use Rattle.script_lines.specs.Line.{IsBlank, IsComment, OneLine, SaysLine, SaysQuietly}
 use Rattle.script_lines.specs.Words.{words_of}
 use Rattle.script_lines.specs.declared.control.Control as control
@@ -40,7 +40,7 @@ kind_of (Control control) = 1
 kind_of (Quiet e) = 2
 kind_of (Exchange e) = 3
 
-control_kind : (c : control.Control) → kind (controls.verb_of c) ≡ 1
+control_kind : (c : control.Control) → kind (controls.control_verb c) ≡ 1
 unfolding kind sends_nothing
 control_kind Reset = refl
 control_kind (Channel channel) = refl
@@ -50,7 +50,7 @@ control_kind (Tokens (Made key)) = refl
 control_kind (Tokens (Damaged key)) = refl
 control_kind (Want status) = refl
 
-exchange_kind : (e : exchange.Exchange) → kind (word_of (verb_of e)) ≡ 3
+exchange_kind : (e : exchange.Exchange) → kind (verb_word (exchange_verb e)) ≡ 3
 unfolding kind sends_nothing
 exchange_kind (Select aid) = refl
 exchange_kind (Raw bytes) = refl

@@ -3,12 +3,12 @@ use Rattle.std.proofs.Common.{◌≡◌, ◌+◌, ◌*◌, ℕ, List, [], ◌∷
 use Rattle.std.proofs.lemmas.Bool.{eqb-false}
 use Rattle.script_lines.proofs.OneKey.{first, one_putting}
 use Rattle.script_lines.proofs.OneOrder.{one_bytes, one_deletion, one_extradition, one_installation, one_life, one_listing, one_load, one_name, one_opening, one_selectable, one_send}
-use Rattle.script_lines.specs.Exchange.{SayAfterVerb, SaysExchange, verb_of}
-use Rattle.script_lines.specs.Verb.{word_of}
+use Rattle.script_lines.specs.Exchange.{SayExchange, SaysExchange, exchange_verb}
+use Rattle.script_lines.specs.Verb.{verb_word}
 use Rattle.script_lines.specs.declared.exchange.Exchange as the_type
 use Rattle.script_lines.specs.declared.exchange.Exchange.TheVariants.{Select, Raw, Open, Send, Bad, Install, Selectable, Extradite, Load, Delete, PutKey, Store, Life, List as Listed, More}
 
-pub begins : (words : List (List ℕ)) (e : the_type.Exchange) → SaysExchange words e → first words ≡ word_of (verb_of e)
+pub begins : (words : List (List ℕ)) (e : the_type.Exchange) → SaysExchange words e → first words ≡ verb_word (exchange_verb e)
 begins (verb ∷ words) e x = x.0
 begins [] e x = absurd x
 
@@ -17,9 +17,9 @@ key : List ℕ → ℕ
 key word = slice_index word 0 + 256 * slice_index word 2 + 65_536 * length word
 
 key_of : the_type.Exchange → ℕ
-key_of e = key (word_of (verb_of e))
+key_of e = key (verb_word (exchange_verb e))
 
-one_after : (words : List (List ℕ)) (a b : the_type.Exchange) → key_of a ≡ key_of b → SayAfterVerb words a → SayAfterVerb words b → a ≡ b
+one_after : (words : List (List ℕ)) (a b : the_type.Exchange) → key_of a ≡ key_of b → SayExchange words a → SayExchange words b → a ≡ b
 unfolding key key_of
 one_after words (Select a) (Select b) e x y = ap Select (one_name words a b x y)
 one_after words (Raw a) (Raw b) e x y = ap Raw (one_bytes words a b x y)

@@ -11,9 +11,9 @@ use Rattle.script_lines.proofs.Spelled.{aid_bytes, application_digits, challenge
 use Rattle.script_lines.specs.Control.{SaysControl}
 use Rattle.script_lines.specs.Install.{SpellsParameters, SpellsPrivileges}
 use Rattle.script_lines.specs.Load.{SpellsCount, SpellsDomain}
-use Rattle.script_lines.specs.Round.{application_of, challenge_of, digits_of, file_of, lines_of}
+use Rattle.script_lines.specs.Round.{application_of, challenge_of, digits_of, lines_of, round_file}
 use Rattle.script_lines.specs.Words.{SpellsAid, SpellsByte, SpellsSome, SpellsUpTo}
-use Rattle.script_lines.specs.Workload.{AreLines, IsLine}
+use Rattle.script_lines.specs.Workload.{AreLines, IsScriptLine}
 use Rattle.script_lines.specs.declared.control.Control.TheVariants.{Reset}
 use Rattle.script_lines.specs.declared.exchange.Exchange.TheVariants.{Open, Install, Selectable, Load, Delete, Store, Life, List as Listed}
 use Rattle.script_lines.specs.declared.line.ScriptLine.TheVariants.{Control}
@@ -27,11 +27,11 @@ pub record IsChosen (r : Round) : Type 0 where
   pub most : r.count ≤ 200
   pub byte : r.byte < 256
 
-reset_line : IsLine (codes "reset")
+reset_line : IsScriptLine (codes "reset")
 reset_line =
     ((Control Reset, subst (λ l. SaysControl l Reset) (sym (one_word (codes "reset") (plain (codes "reset") refl))) (refl, refl)), omega arith)
 
-open_line : (r : Round) → IsChosen r → IsLine (codes "open 00 " ++ digits_of r.level ++ codes " " ++ challenge_of r)
+open_line : (r : Round) → IsChosen r → IsScriptLine (codes "open 00 " ++ digits_of r.level ++ codes " " ++ challenge_of r)
 unfolding SpellsByte SpellsSome decode_pairs encode_with
 open_line r h =
     let level = level_digits r.level h.level.0 h.level.1 in
@@ -43,7 +43,7 @@ open_line r h =
       omega arith,
     )
 
-store_line : (r : Round) → IsLine (codes "store 4508" ++ challenge_of r)
+store_line : (r : Round) → IsScriptLine (codes "store 4508" ++ challenge_of r)
 unfolding SpellsUpTo encode_with
 store_line r =
     let stored = stored_digits r in (
@@ -52,7 +52,7 @@ store_line r =
       omega arith,
     )
 
-load_line : (r : Round) → IsChosen r → IsLine (codes "load " ++ file_of r ++ codes " - none fill " ++ decimal r.count ++ codes " " ++ digits_of r.byte)
+load_line : (r : Round) → IsChosen r → IsScriptLine (codes "load " ++ round_file r ++ codes " - none fill " ++ decimal r.count ++ codes " " ++ digits_of r.byte)
 unfolding SpellsAid SpellsByte SpellsCount SpellsDomain encode_with
 load_line r h =
     let file = file_digits r in
@@ -62,24 +62,24 @@ load_line r h =
     let digits = length-decimal-le 3 r.count (omega arith) (omega (arith, most)) (omega (arith, most)) in
     let whole = length-append (decimal r.count) (32 ∷ digits_of r.byte) in
     let regrouped = append_assoc (decimal r.count) (codes " ") (digits_of r.byte) in
-    let file_word = spelled_out (file_of r) _ file in
+    let file_word = spelled_out (round_file r) _ file in
     let number_word = number r.count (omega (arith, most)) in
-    subst (λ l. IsLine (codes "load " ++ file_of r ++ codes " - none fill " ++ l)) (sym regrouped) (
-      says (file_of r ∷ codes "-" ∷ codes "none" ∷ codes "fill" ∷ decimal r.count ∷ digits_of r.byte ∷ [])
+    subst (λ l. IsScriptLine (codes "load " ++ round_file r ++ codes " - none fill " ++ l)) (sym regrouped) (
+      says (round_file r ∷ codes "-" ∷ codes "none" ∷ codes "fill" ∷ decimal r.count ∷ digits_of r.byte ∷ [])
           (Load (record { file = aid_bytes r 0x01; domain = None; hash = None; content = Filled (record { count = r.count; byte = r.byte }) }))
           refl (file_word, (plain (codes "-") refl, (plain (codes "none") refl, (plain (codes "fill") refl, (number_word, (spelled_out (digits_of r.byte) _ byte, tt))))))
           ((file, (omega arith, omega arith)), refl, refl, (refl, (refl, least, omega (arith, most)), byte)),
       omega (arith, digits, whole),
     )
 
-install_line : (r : Round) → IsLine (codes "install 04 " ++ file_of r ++ codes " " ++ application_of r ++ codes " " ++ application_of r ++ codes " 00 c900")
+install_line : (r : Round) → IsScriptLine (codes "install 04 " ++ round_file r ++ codes " " ++ application_of r ++ codes " " ++ application_of r ++ codes " 00 c900")
 unfolding SpellsAid SpellsByte SpellsParameters SpellsPrivileges SpellsUpTo decode_pairs encode_with
 install_line r =
     let file = file_digits r in
     let application = application_digits r in
-    let file_word = spelled_out (file_of r) _ file in
+    let file_word = spelled_out (round_file r) _ file in
     let word = spelled_out (application_of r) _ application in (
-      says (codes "04" ∷ file_of r ∷ application_of r ∷ application_of r ∷ codes "00" ∷ codes "c900" ∷ [])
+      says (codes "04" ∷ round_file r ∷ application_of r ∷ application_of r ∷ codes "00" ∷ codes "c900" ∷ [])
           (Install (record {
             selectable = false;
             file = aid_bytes r 0x01;
@@ -99,7 +99,7 @@ install_line r =
       omega arith,
     )
 
-selectable_line : (r : Round) → IsLine (codes "selectable " ++ application_of r)
+selectable_line : (r : Round) → IsScriptLine (codes "selectable " ++ application_of r)
 unfolding SpellsAid encode_with
 selectable_line r =
     let application = application_digits r in (
@@ -108,7 +108,7 @@ selectable_line r =
       omega arith,
     )
 
-list_line : IsLine (codes "list 40")
+list_line : IsScriptLine (codes "list 40")
 unfolding SpellsByte decode_pairs
 list_line = (
   says (codes "40" ∷ []) (Listed (record { p1 = 0x40; prefix = record { items = [] } })) refl
@@ -117,7 +117,7 @@ list_line = (
 )
 
 -- `life 40 80` and `life 40 00`
-life_line : (r : Round) (word : List ℕ) (p2 : ℕ) → SpellsByte word p2 → length word ≡ 2 → IsLine (line_of (codes "life") (codes "40" ∷ word ∷ application_of r ∷ []))
+life_line : (r : Round) (word : List ℕ) (p2 : ℕ) → SpellsByte word p2 → length word ≡ 2 → IsScriptLine (line_of (codes "life") (codes "40" ∷ word ∷ application_of r ∷ []))
 unfolding SpellsAid SpellsByte decode_pairs encode_with
 life_line r word p2 spells two =
     let application = application_digits r in
@@ -128,20 +128,20 @@ life_line r word p2 spells two =
       omega (arith, two, whole),
     )
 
-lock_line : (r : Round) → IsLine (codes "life 40 80 " ++ application_of r)
+lock_line : (r : Round) → IsScriptLine (codes "life 40 80 " ++ application_of r)
 unfolding SpellsByte decode_pairs
 lock_line r = life_line r (codes "80") 0x80 refl refl
 
-unlock_line : (r : Round) → IsLine (codes "life 40 00 " ++ application_of r)
+unlock_line : (r : Round) → IsScriptLine (codes "life 40 00 " ++ application_of r)
 unfolding SpellsByte decode_pairs
 unlock_line r = life_line r (codes "00") 0x00 refl refl
 
-delete_line : (r : Round) → IsLine (codes "delete " ++ file_of r ++ codes " 80")
+delete_line : (r : Round) → IsScriptLine (codes "delete " ++ round_file r ++ codes " 80")
 unfolding SpellsAid SpellsByte decode_pairs encode_with
 delete_line r =
     let file = file_digits r in (
-      says (file_of r ∷ codes "80" ∷ []) (Delete (record { aid = aid_bytes r 0x01; p2 = 0x80 })) refl
-          (spelled_out (file_of r) _ file, (plain (codes "80") refl, tt)) ((file, (omega arith, omega arith)), refl),
+      says (round_file r ∷ codes "80" ∷ []) (Delete (record { aid = aid_bytes r 0x01; p2 = 0x80 })) refl
+          (spelled_out (round_file r) _ file, (plain (codes "80") refl, tt)) ((file, (omega arith, omega arith)), refl),
       omega arith,
     )
 

@@ -16,9 +16,9 @@ use Rattle.card_types.specs.Level.{code_of}
 use Rattle.card_types.specs.declared.level.Level.{Level}
 use Rattle.card_types.specs.declared.level.Level.TheVariants.{Mac}
 use Rattle.script_lines.proofs.Split.{one_word}
-use Rattle.script_lines.specs.Exchange.{SayAfterVerb, SaysExchange, verb_of}
-use Rattle.script_lines.specs.Verb.{word_of}
-use Rattle.script_lines.specs.Round.{application_of, challenge_of, digits_of, file_of}
+use Rattle.script_lines.specs.Exchange.{SayExchange, SaysExchange, exchange_verb}
+use Rattle.script_lines.specs.Verb.{verb_word}
+use Rattle.script_lines.specs.Round.{application_of, challenge_of, digits_of, round_file}
 use Rattle.script_lines.specs.Words.{HasNoSpace, words_of}
 use Rattle.script_lines.specs.Workload.{SaysSome}
 use Rattle.script_lines.specs.declared.exchange.Exchange as exchange
@@ -60,10 +60,10 @@ words_back word [] none rest = one_word word none
 words_back word (next ∷ words) none rest =
     slice_split_at (λ byte. byte == 32) word 32 (line_of next words) none refl ∙ ap (λ l. word ∷ l) (words_back next words rest.0 rest.1)
 
-pub says : (words : List (List ℕ)) (e : exchange.Exchange) → list_all not_space (word_of (verb_of e)) ≡ true → AllByRecursion HasNoSpace words → SayAfterVerb words e
-    → SaysSome (line_of (word_of (verb_of e)) words)
+pub says : (words : List (List ℕ)) (e : exchange.Exchange) → list_all not_space (verb_word (exchange_verb e)) ≡ true → AllByRecursion HasNoSpace words → SayExchange words e
+    → SaysSome (line_of (verb_word (exchange_verb e)) words)
 says words e none rest said =
-    (Exchange e, subst (λ (l : List (List ℕ)). SaysExchange l e) (sym (words_back (word_of (verb_of e)) words (plain (word_of (verb_of e)) none) rest)) (refl, said))
+    (Exchange e, subst (λ (l : List (List ℕ)). SaysExchange l e) (sym (words_back (verb_word (exchange_verb e)) words (plain (verb_word (exchange_verb e)) none) rest)) (refl, said))
 
 -- ---- what the words of a round spell
 
@@ -105,7 +105,7 @@ aid_are_bytes r last small =
     cons_bytes 0xf0 (to_be_bytes w32 r.number ++ last ∷ []) (omega arith)
     (number_bytes 4 r.number (last ∷ []) (cons_bytes last [] small nil_bytes))
 
-pub file_digits : (r : Round) → decode_of (file_of r) ≡ Ok (aid_bytes r 0x01)
+pub file_digits : (r : Round) → decode_of (round_file r) ≡ Ok (aid_bytes r 0x01)
 unfolding encode_with
 file_digits r = decode_of-encode_lower (aid_bytes r 0x01) (aid_are_bytes r 0x01 (omega arith))
 

@@ -4,8 +4,8 @@ use Rattle.std.specs.List.{join_with_byte}
 use Rattle.std.proofs.lemmas.List.Splits.{join_with_byte-slice_split}
 use Rattle.script_lines.proofs.OneKey.{first}
 use Rattle.script_lines.proofs.OneVerb.{begins}
-use Rattle.script_lines.specs.Exchange.{SaysExchange, verb_of}
-use Rattle.script_lines.specs.Verb.{word_of}
+use Rattle.script_lines.specs.Exchange.{SaysExchange, exchange_verb}
+use Rattle.script_lines.specs.Verb.{verb_word}
 use Rattle.script_lines.specs.Words.{words_of}
 use Rattle.script_lines.specs.declared.exchange.Exchange as the_type
 use Rattle.script_lines.specs.declared.exchange.Exchange.TheVariants.{Select, Raw, Bad, Install, Selectable, Extradite, Load, Delete, PutKey, Store}
@@ -39,7 +39,7 @@ first_wide (word ∷ words) = omega arith
 at_least : (n : ℕ) → 3 ≤ 3 + n
 at_least n = omega arith
 
-verb_long : (e : the_type.Exchange) → 3 ≤ length (word_of (verb_of e))
+verb_long : (e : the_type.Exchange) → 3 ≤ length (verb_word (exchange_verb e))
 verb_long (Select aid) = at_least 3
 verb_long (Raw bytes) = at_least 0
 verb_long (Bad command) = at_least 0

@@ -7,8 +7,8 @@ abbrev pub plain_command : (ins p1 p2 : ℕ) → List ℕ → Apdu
 plain_command ins p1 p2 body = record { class = 0x80; ins = ins; p1 = p1; p2 = p2; body = body; le = None }
 
 -- its bytes
-abbrev pub spelled : Apdu → List ℕ
-spelled command = header command ++ after_header command.body command.le
+abbrev pub command_bytes : Apdu → List ℕ
+command_bytes command = header command ++ after_header command.body command.le
 
 -- the bytes with the lowest bit of one of them turned
 abbrev pub turned_at : ℕ → List ℕ → List ℕ

@@ -9,12 +9,12 @@ use Rattle.script_lines.specs.declared.control.Control as the_type
 use Rattle.script_lines.specs.declared.control.Control.TheVariants.{Reset, Channel, Keys, Tokens, Want}
 
 -- the verb of each form
-abbrev pub verb_of : the_type.Control → List ℕ
-verb_of Reset = codes "reset"
-verb_of (Channel channel) = codes "channel"
-verb_of (Keys keys) = codes "keys"
-verb_of (Tokens tokens) = token_verb tokens
-verb_of (Want status) = codes "want"
+abbrev pub control_verb : the_type.Control → List ℕ
+control_verb Reset = codes "reset"
+control_verb (Channel channel) = codes "channel"
+control_verb (Keys keys) = codes "keys"
+control_verb (Tokens tokens) = token_verb tokens
+control_verb (Want status) = codes "want"
 
 -- `want SSSS`: the status that the last command is to have
 abbrev pub SaysWant : List (List ℕ) → Status → Type 0
@@ -22,13 +22,13 @@ SaysWant (status ∷ []) s = SpellsStatus status s
 SaysWant _ s = ⊥
 
 -- what the words after the verb say
-abbrev pub SayAfterVerb : List (List ℕ) → the_type.Control → Type 0
-SayAfterVerb words Reset = words ≡ []
-SayAfterVerb words (Channel channel) = SaysChannel words channel
-SayAfterVerb words (Keys keys) = SpellKeys words keys
-SayAfterVerb words (Tokens tokens) = SaysTokens words tokens
-SayAfterVerb words (Want status) = SaysWant words status
+abbrev pub SayControl : List (List ℕ) → the_type.Control → Type 0
+SayControl words Reset = words ≡ []
+SayControl words (Channel channel) = SaysChannel words channel
+SayControl words (Keys keys) = SpellKeys words keys
+SayControl words (Tokens tokens) = SaysTokens words tokens
+SayControl words (Want status) = SaysWant words status
 
 abbrev pub SaysControl : List (List ℕ) → the_type.Control → Type 0
-SaysControl (verb ∷ words) c = (verb ≡ verb_of c) × SayAfterVerb words c
+SaysControl (verb ∷ words) c = (verb ≡ control_verb c) × SayControl words c
 SaysControl [] c = ⊥

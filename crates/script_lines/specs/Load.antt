@@ -66,10 +66,10 @@ abbrev pub block_element : List ℕ → List ℕ
 block_element bytes = 0xC4 ∷ length_field (length bytes) ++ bytes
 
 -- LOAD of the next block, with P1 80 for the last one and the block's number in P2 (11.6.2)
-abbrev pub loading : (last : Bool) (number : ℕ) → List ℕ → Apdu
-loading last number block = plain_command 0xE8 (if last then 0x80 else 0x00) number block
+abbrev pub block_command : (last : Bool) (number : ℕ) → List ℕ → Apdu
+block_command last number block = plain_command 0xE8 (if last then 0x80 else 0x00) number block
 
 -- the LOAD commands of so many blocks of a size, the first of which has this number
 abbrev pub load_blocks : (size left number : ℕ) → List ℕ → List Apdu
 load_blocks size zero number bytes = []
-load_blocks size (suc left) number bytes = loading (left == 0) number (take size bytes) ∷ load_blocks size left (number + 1) (drop size bytes)
+load_blocks size (suc left) number bytes = block_command (left == 0) number (take size bytes) ∷ load_blocks size left (number + 1) (drop size bytes)

@@ -34,14 +34,14 @@ SaysPutKey (old ∷ new ∷ keys) p = SpellsByte old p.replaced × SpellsByte ne
 SaysPutKey _ p = ⊥
 
 -- the keys, of one length
-abbrev pub keys_of : {size : ℕ} → NewKeys size → List (List ℕ)
-keys_of (One key) = key ∷ []
-keys_of (Three keys) = keys.enc ∷ keys.mac ∷ keys.dek ∷ []
+abbrev pub key_list : {size : ℕ} → NewKeys size → List (List ℕ)
+key_list (One key) = key ∷ []
+key_list (Three keys) = keys.enc ∷ keys.mac ∷ keys.dek ∷ []
 
 abbrev pub new_keys : OfSize (NewKeys 16) (NewKeys 24) (NewKeys 32) → List (List ℕ)
-new_keys (Aes128 keys) = keys_of keys
-new_keys (Aes192 keys) = keys_of keys
-new_keys (Aes256 keys) = keys_of keys
+new_keys (Aes128 keys) = key_list keys
+new_keys (Aes192 keys) = key_list keys
+new_keys (Aes256 keys) = key_list keys
 
 -- a key as it is sent under Key-DEK: zeros fill its last block (Amendment D, 4.1.4)
 abbrev pub sent_under : List ℕ → List ℕ → SentKey

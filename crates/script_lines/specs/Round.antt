@@ -13,8 +13,8 @@ abbrev pub challenge_of : Round → List ℕ
 challenge_of r = encode_lower (to_be_bytes w64 r.challenge)
 
 -- the AID of the file, and that of its module and of the application
-abbrev pub file_of : Round → List ℕ
-file_of r = codes "f0" ++ encode_lower (to_be_bytes w32 r.number) ++ codes "01"
+abbrev pub round_file : Round → List ℕ
+round_file r = codes "f0" ++ encode_lower (to_be_bytes w32 r.number) ++ codes "01"
 
 abbrev pub application_of : Round → List ℕ
 application_of r = codes "f0" ++ encode_lower (to_be_bytes w32 r.number) ++ codes "02"
@@ -26,11 +26,11 @@ lines_of r =
     codes "reset"
     ∷ (codes "open 00 " ++ digits_of r.level ++ codes " " ++ challenge_of r)
     ∷ (codes "store 4508" ++ challenge_of r)
-    ∷ (codes "load " ++ file_of r ++ codes " - none fill " ++ decimal r.count ++ codes " " ++ digits_of r.byte)
-    ∷ (codes "install 04 " ++ file_of r ++ codes " " ++ application_of r ++ codes " " ++ application_of r ++ codes " 00 c900")
+    ∷ (codes "load " ++ round_file r ++ codes " - none fill " ++ decimal r.count ++ codes " " ++ digits_of r.byte)
+    ∷ (codes "install 04 " ++ round_file r ++ codes " " ++ application_of r ++ codes " " ++ application_of r ++ codes " 00 c900")
     ∷ (codes "selectable " ++ application_of r)
     ∷ codes "list 40"
     ∷ (codes "life 40 80 " ++ application_of r)
     ∷ (codes "life 40 00 " ++ application_of r)
-    ∷ (codes "delete " ++ file_of r ++ codes " 80")
+    ∷ (codes "delete " ++ round_file r ++ codes " 80")
     ∷ []

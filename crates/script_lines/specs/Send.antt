@@ -21,5 +21,5 @@ SaysSend (command ∷ []) c = SpellsPlain command c
 SaysSend _ c = ⊥
 
 -- the command without its Le
-abbrev pub plain_of : Plain → Apdu
-plain_of c = plain_command c.ins c.p1 c.p2 c.body.items
+abbrev pub command_of_plain : Plain → Apdu
+command_of_plain c = plain_command c.ins c.p1 c.p2 c.body.items

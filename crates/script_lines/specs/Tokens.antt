@@ -10,16 +10,16 @@ use Rattle.script_lines.specs.declared.keys.OfSize.TheVariants.{Aes128, Aes192, 
 use Rattle.script_lines.specs.declared.tokens.Tokens.{Tokens}
 use Rattle.script_lines.specs.declared.tokens.Tokens.TheVariants.{Absent, Made, Damaged}
 
-abbrev pub key_of : OfSize (List ℕ) (List ℕ) (List ℕ) → List ℕ
-key_of (Aes128 key) = key
-key_of (Aes192 key) = key
-key_of (Aes256 key) = key
+abbrev pub sized_key : OfSize (List ℕ) (List ℕ) (List ℕ) → List ℕ
+sized_key (Aes128 key) = key
+sized_key (Aes192 key) = key
+sized_key (Aes256 key) = key
 
 -- the token of a command with these bytes before it, if it carries one
 abbrev pub token_made : Tokens → (p1 p2 : ℕ) → List ℕ → Option (List ℕ)
 token_made Absent p1 p2 before = None
-token_made (Made key) p1 p2 before = Some (token (key_of key) p1 p2 before)
-token_made (Damaged key) p1 p2 before = Some (turned_at 15 (token (key_of key) p1 p2 before))
+token_made (Made key) p1 p2 before = Some (token (sized_key key) p1 p2 before)
+token_made (Damaged key) p1 p2 before = Some (turned_at 15 (token (sized_key key) p1 p2 before))
 
 -- INSTALL: its fields and the token, each after its length (11.5.2.3)
 abbrev pub install_command : Tokens → ℕ → List (List ℕ) → Apdu

@@ -16,8 +16,8 @@ unfoldable pub words_of : List ℕ → List (List ℕ)
 words_of text = slice_split (λ byte. byte == 32) text
 
 -- the words that are left
-abbrev pub left : Words → List (List ℕ)
-left words = option_map_or (λ text. words_of text.now) words.rest []
+abbrev pub remaining_words : Words → List (List ℕ)
+remaining_words words = option_map_or (λ text. words_of text.now) words.rest []
 
 abbrev pub HasNoSpace : List ℕ → Type 0
 HasNoSpace text = All (λ byte. (byte == 32) ≡ false) text

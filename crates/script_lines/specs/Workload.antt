@@ -11,11 +11,11 @@ abbrev pub SaysSome : List ℕ → Type 0
 SaysSome text = (line : ScriptLine) × SaysLine text line
 
 -- it does, and a source can give it
-abbrev pub IsLine : List ℕ → Type 0
-IsLine text = SaysSome text × (length text ≤ LINE_LIMIT)
+abbrev pub IsScriptLine : List ℕ → Type 0
+IsScriptLine text = SaysSome text × (length text ≤ LINE_LIMIT)
 
 abbrev pub AreLines : List (List ℕ) → Type 0
-AreLines texts = AllByRecursion IsLine texts
+AreLines texts = AllByRecursion IsScriptLine texts
 
 -- each line of a workload is one
 abbrev pub WorkloadLines : Type 0

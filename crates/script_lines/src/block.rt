@@ -1,7 +1,7 @@
 //! The blocks of an Executable Load File (GlobalPlatform Card Specification 2.3.1, 11.6).
 
 ghost use Rattle.std.specs.Prelude.{◌≡◌, ◌∷◌};
-ghost use Rattle.script_lines.specs.Prelude.{apdu_of, length_field, loading};
+ghost use Rattle.script_lines.specs.Prelude.{apdu_of, block_command, length_field};
 
 use apdu_core::Command;
 use arrayvec::ArrayVec;
@@ -28,7 +28,7 @@ pub fn tag_and_length(size: u16) -> ArrayVec<u8, 4>
 
 /// LOAD of a block.
 pub fn load_block(last: bool, number: u8, block: &[u8]) -> Command<'_>
-    ensures { apdu_of result ≡ loading last number block.now }
+    ensures { apdu_of result ≡ block_command last number block.now }
 {
     Command {
         class: 0x80,

@@ -1,7 +1,7 @@
 //! Logical channels (GlobalPlatform Card Specification 2.3.1, 11.1.4).
 
 ghost use Rattle.std.specs.Prelude.{◌≡◌, ◌+◌, ◌∷◌, [], ◌<◌};
-ghost use Rattle.script_lines.specs.Prelude.{Reads, SaysChannel, left, number_of};
+ghost use Rattle.script_lines.specs.Prelude.{Reads, SaysChannel, channel_number, remaining_words};
 
 use crate::words::Words;
 
@@ -17,7 +17,7 @@ pub enum Channel {
 impl Channel {
     /// Its number.
     pub fn number(&self) -> u8
-        ensures number { result ≡ number_of self.now }
+        ensures number { result ≡ channel_number self.now }
         ensures few { result < 4 }
     {
         *self as u8
@@ -26,7 +26,7 @@ impl Channel {
 
 // The channel that a digit names.
 fn named(word: &[u8]) -> Option<Channel>
-    ensures { Reads (λ channel. word.now ≡ (48 + number_of channel) ∷ []) result }
+    ensures { Reads (λ channel. word.now ≡ (48 + channel_number channel) ∷ []) result }
 {
     match word {
         [b'0'] => Some(Channel::Basic),
@@ -39,7 +39,7 @@ fn named(word: &[u8]) -> Option<Channel>
 
 /// Reads `N`, the word after `channel`.
 pub fn read(words: Words<'_>) -> Option<Channel>
-    ensures { Reads (SaysChannel (left words.entry)) result }
+    ensures { Reads (SaysChannel (remaining_words words.entry)) result }
 {
     let channel = named(words.last()?)?;
     Some(channel)

@@ -1,6 +1,6 @@
 //! The lines that send nothing to the card (this profile's own).
 
-ghost use Rattle.script_lines.specs.Prelude.{Reads, SaysControl, SaysWant, left};
+ghost use Rattle.script_lines.specs.Prelude.{Reads, SaysControl, SaysWant, remaining_words};
 
 use crate::channel::{self, Channel};
 use crate::keys::{self, Keys};
@@ -30,7 +30,7 @@ pub enum Control {
 
 // `SSSS`
 fn want(words: Words<'_>) -> Option<Status>
-    ensures { Reads (SaysWant (left words.entry)) result }
+    ensures { Reads (SaysWant (remaining_words words.entry)) result }
 {
     let status = status(words.last()?)?;
     Some(status)
@@ -38,7 +38,7 @@ fn want(words: Words<'_>) -> Option<Status>
 
 /// Reads a line that sends nothing. Its first word, the verb, tells which form it may have.
 pub fn read(mut words: Words<'_>) -> Option<Control>
-    ensures { Reads (SaysControl (left words.entry)) result }
+    ensures { Reads (SaysControl (remaining_words words.entry)) result }
 {
     match words.take()? {
         b"reset" => {

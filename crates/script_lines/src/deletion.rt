@@ -1,7 +1,7 @@
 //! Objects to delete (GlobalPlatform Card Specification 2.3.1, 11.2).
 
 ghost use Rattle.std.specs.Prelude.{◌≡◌};
-ghost use Rattle.script_lines.specs.Prelude.{Reads, SaysDelete, deleting, left, plain_of};
+ghost use Rattle.script_lines.specs.Prelude.{Reads, SaysDelete, command_of_plain, deleting, remaining_words};
 
 use crate::plain::Plain;
 use crate::tokens::Tokens;
@@ -21,7 +21,7 @@ impl Deletion {
     /// DELETE.
     #[inline(never)]
     pub fn command(&self, tokens: &Tokens) -> Plain
-        ensures { plain_of result ≡ deleting tokens.now self.now }
+        ensures { command_of_plain result ≡ deleting tokens.now self.now }
     {
         let mut body = object_field(&self.aid);
         if let Some(token) = tokens.token(0x00, self.p2, &body) {
@@ -40,7 +40,7 @@ impl Deletion {
 /// Reads `AID P2`, the words after `delete`.
 #[inline(never)]
 pub fn read(mut words: Words<'_>) -> Option<Deletion>
-    ensures { Reads (SaysDelete (left words.entry)) result }
+    ensures { Reads (SaysDelete (remaining_words words.entry)) result }
 {
     let aid = aid(words.take()?)?;
     let p2 = byte(words.last()?)?;

@@ -1,7 +1,7 @@
 //! The lines that send commands to the card (this profile's own).
 
 ghost use Rattle.std.specs.Prelude.{◌≡◌, ◌∷◌, MatchOption};
-ghost use Rattle.script_lines.specs.Prelude.{Reads, SaysExchange, SaysSent, left, sent_as, word_of};
+ghost use Rattle.script_lines.specs.Prelude.{Reads, SaysExchange, SaysSent, remaining_words, sent_as, verb_word};
 ghost use Rattle.script_lines.specs.declared.exchange.Exchange.{Exchange};
 ghost use Rattle.script_lines.specs.declared.verb.Verb.TheVariants.{Send};
 
@@ -73,7 +73,7 @@ pub enum Exchange {
 // Reads the words after a verb. It is out of line, so that a line which sends a command sets no other form's values to zeros.
 #[inline(never)]
 fn form(verb: Verb, words: Words<'_>) -> Option<Exchange>
-    ensures { Reads (SaysExchange (word_of verb ∷ left words.entry)) result }
+    ensures { Reads (SaysExchange (verb_word verb ∷ remaining_words words.entry)) result }
 {
     match verb {
         Verb::Select => life::may_name(words).map(Exchange::Select),
@@ -108,7 +108,7 @@ fn sent(quiet: bool, exchange: Exchange) -> ScriptLine
 // Makes `line` what the words after `send` say.
 #[inline(never)]
 fn send(words: Words<'_>, quiet: bool, line: &mut ScriptLine) -> Option<()>
-    ensures { MatchOption result ((e : Exchange) → SaysExchange (word_of Send ∷ left words.entry) e → ⊥) (λ _. SaysSent quiet (word_of Send ∷ left words.entry) line.new) }
+    ensures { MatchOption result ((e : Exchange) → SaysExchange (verb_word Send ∷ remaining_words words.entry) e → ⊥) (λ _. SaysSent quiet (verb_word Send ∷ remaining_words words.entry) line.new) }
 {
     let mut command = Plain::new();
     command.read(words)?;
@@ -119,7 +119,7 @@ fn send(words: Words<'_>, quiet: bool, line: &mut ScriptLine) -> Option<()>
 // Makes `line` what the words after a verb say.
 #[inline(never)]
 fn other(verb: Verb, words: Words<'_>, quiet: bool, line: &mut ScriptLine) -> Option<()>
-    ensures { MatchOption result ((e : Exchange) → SaysExchange (word_of verb ∷ left words.entry) e → ⊥) (λ _. SaysSent quiet (word_of verb ∷ left words.entry) line.new) }
+    ensures { MatchOption result ((e : Exchange) → SaysExchange (verb_word verb ∷ remaining_words words.entry) e → ⊥) (λ _. SaysSent quiet (verb_word verb ∷ remaining_words words.entry) line.new) }
 {
     *line = sent(quiet, form(verb, words)?);
     Some(())
@@ -128,7 +128,7 @@ fn other(verb: Verb, words: Words<'_>, quiet: bool, line: &mut ScriptLine) -> Op
 /// Makes `line` what a line that sends commands says, quietly or not. Its first word tells which form it may have. Most send one command of a
 /// session, which is asked for first; each value that is handed on would be copied.
 pub fn read(mut words: Words<'_>, quiet: bool, line: &mut ScriptLine) -> Option<()>
-    ensures { MatchOption result ((e : Exchange) → SaysExchange (left words.entry) e → ⊥) (λ _. SaysSent quiet (left words.entry) line.new) }
+    ensures { MatchOption result ((e : Exchange) → SaysExchange (remaining_words words.entry) e → ⊥) (λ _. SaysSent quiet (remaining_words words.entry) line.new) }
 {
     match Verb::read(words.take()?)? {
         Verb::Send => send(words, quiet, line),

@@ -1,7 +1,7 @@
 //! Applications to extradite (GlobalPlatform Card Specification 2.3.1, 11.5).
 
 ghost use Rattle.std.specs.Prelude.{◌≡◌};
-ghost use Rattle.script_lines.specs.Prelude.{Reads, SaysExtradite, extraditing, left, plain_of};
+ghost use Rattle.script_lines.specs.Prelude.{Reads, SaysExtradite, command_of_plain, extraditing, remaining_words};
 
 use crate::install::install;
 use crate::plain::Plain;
@@ -22,7 +22,7 @@ impl Extradition {
     /// INSTALL for extradition.
     #[inline(never)]
     pub fn command(&self, tokens: &Tokens) -> Plain
-        ensures { plain_of result ≡ extraditing tokens.now self.now }
+        ensures { command_of_plain result ≡ extraditing tokens.now self.now }
     {
         let fields = five_fields(self.domain.as_bytes(), &[], self.aid.as_bytes(), &[], &[]);
         install(tokens, 0x10, fields)
@@ -32,7 +32,7 @@ impl Extradition {
 /// Reads `AID DOMAIN`, the words after `extradite`.
 #[inline(never)]
 pub fn read(mut words: Words<'_>) -> Option<Extradition>
-    ensures { Reads (SaysExtradite (left words.entry)) result }
+    ensures { Reads (SaysExtradite (remaining_words words.entry)) result }
 {
     let moved = aid(words.take()?)?;
     let domain = aid(words.last()?)?;

@@ -1,7 +1,7 @@
 //! Applications to install (GlobalPlatform Card Specification 2.3.1, 11.5).
 
 ghost use Rattle.std.specs.Prelude.{◌≡◌, ◌≤◌, ℕ, List, length, flat_map};
-ghost use Rattle.script_lines.specs.Prelude.{Reads, SaysInstall, SpellsByte, SpellsParameters, SpellsPrivileges, install_command, install_p1, installing, left, plain_of, with_length};
+ghost use Rattle.script_lines.specs.Prelude.{Reads, SaysInstall, SpellsByte, SpellsParameters, SpellsPrivileges, command_of_plain, install_command, install_p1, installing, remaining_words, with_length};
 
 use crate::plain::Plain;
 use crate::tokens::Tokens;
@@ -34,7 +34,7 @@ impl Installation {
     /// INSTALL for install, or for install and make selectable.
     #[inline(never)]
     pub fn command(&self, tokens: &Tokens) -> Plain
-        ensures { plain_of result ≡ installing tokens.now self.now }
+        ensures { command_of_plain result ≡ installing tokens.now self.now }
     {
         let fields = five_fields(
             self.file.as_bytes(),
@@ -50,7 +50,7 @@ impl Installation {
 /// INSTALL of the fields that `body` holds, each after its length, with its token.
 pub fn install(tokens: &Tokens, p1: u8, body: DataField) -> Plain
     requires { length body.items ≤ 238 }
-    ensures { (fields : List (List ℕ)) → body.items ≡ flat_map with_length fields → plain_of result ≡ install_command tokens.now p1 fields }
+    ensures { (fields : List (List ℕ)) → body.items ≡ flat_map with_length fields → command_of_plain result ≡ install_command tokens.now p1 fields }
 {
     let mut body = body;
     match tokens.token(p1, 0x00, &body) {
@@ -101,7 +101,7 @@ fn parameters(word: &[u8]) -> Option<ArrayVec<u8, 127>>
 /// Reads `P1 FILE MODULE AID PRIV PARAMS`, the words after `install`.
 #[inline(never)]
 pub fn read(mut words: Words<'_>) -> Option<Installation>
-    ensures { Reads (SaysInstall (left words.entry)) result }
+    ensures { Reads (SaysInstall (remaining_words words.entry)) result }
 {
     let selectable = selectable(words.take()?)?;
     let file = aid(words.take()?)?;

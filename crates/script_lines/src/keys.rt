@@ -1,6 +1,6 @@
 //! Keys of AES (this profile's own).
 
-ghost use Rattle.script_lines.specs.Prelude.{Reads, SpellKeys, SpellTrio, SpellsKey, left};
+ghost use Rattle.script_lines.specs.Prelude.{Reads, SpellKeys, SpellTrio, SpellsKey, remaining_words};
 
 use crate::values::array;
 use crate::words::Words;
@@ -46,7 +46,7 @@ pub fn key(word: &[u8]) -> Option<Key>
 
 /// Three keys of `N` bytes.
 pub fn three_keys<const N: usize>(mut words: Words<'_>) -> Option<Trio<N>>
-    ensures { Reads (SpellTrio N (left words.entry)) result }
+    ensures { Reads (SpellTrio N (remaining_words words.entry)) result }
 {
     let enc = array(words.take()?)?;
     let mac = array(words.take()?)?;
@@ -56,7 +56,7 @@ pub fn three_keys<const N: usize>(mut words: Words<'_>) -> Option<Trio<N>>
 
 /// Reads `ENC MAC DEK`, the words after `keys`: three keys of one length.
 pub fn read(words: Words<'_>) -> Option<Keys>
-    ensures { Reads (SpellKeys (left words.entry)) result }
+    ensures { Reads (SpellKeys (remaining_words words.entry)) result }
 {
     if let Some(keys) = three_keys(words) {
         return Some(OfSize::Aes128(keys));

@@ -1,7 +1,7 @@
 //! Changes of a life cycle state (GlobalPlatform Card Specification 2.3.1, 11.10).
 
 ghost use Rattle.std.specs.Prelude.{◌≡◌};
-ghost use Rattle.script_lines.specs.Prelude.{MayName, Reads, SaysLife, changing_life, left, plain_of};
+ghost use Rattle.script_lines.specs.Prelude.{MayName, Reads, SaysLife, changing_life, command_of_plain, remaining_words};
 
 use crate::plain::Plain;
 use crate::values::{aid, byte};
@@ -21,7 +21,7 @@ impl LifeChange {
     /// SET STATUS.
     #[inline(never)]
     pub fn command(&self) -> Plain
-        ensures { plain_of result ≡ changing_life self.now }
+        ensures { command_of_plain result ≡ changing_life self.now }
     {
         let mut body = DataField::new();
         if let Some(aid) = &self.aid {
@@ -39,7 +39,7 @@ impl LifeChange {
 /// The AID, or none where the words end.
 #[inline(never)]
 pub fn may_name(mut words: Words<'_>) -> Option<Option<Aid>>
-    ensures { Reads (MayName (left words.entry)) result }
+    ensures { Reads (MayName (remaining_words words.entry)) result }
 {
     match words.take() {
         None => Some(None),
@@ -54,7 +54,7 @@ pub fn may_name(mut words: Words<'_>) -> Option<Option<Aid>>
 /// Reads `P1 P2 [AID]`, the words after `life`.
 #[inline(never)]
 pub fn read(mut words: Words<'_>) -> Option<LifeChange>
-    ensures { Reads (SaysLife (left words.entry)) result }
+    ensures { Reads (SaysLife (remaining_words words.entry)) result }
 {
     let p1 = byte(words.take()?)?;
     let p2 = byte(words.take()?)?;

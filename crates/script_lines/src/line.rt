@@ -1,7 +1,7 @@
 //! What a line says (this profile's own).
 
 ghost use Rattle.std.specs.Prelude.{◌≡◌, IfNone, IfSome, MatchOption};
-ghost use Rattle.script_lines.specs.Prelude.{HasNoForm, SaysLine, SaysSending, is_quiet, left};
+ghost use Rattle.script_lines.specs.Prelude.{HasNoForm, SaysLine, SaysSending, is_quiet, remaining_words};
 ghost use Rattle.script_lines.specs.declared.line.ScriptLine.{ScriptLine};
 
 use crate::control::{self, Control};
@@ -27,7 +27,7 @@ pub enum ScriptLine {
 
 // Makes `line` something to send, perhaps after `- `.
 fn sending(words: Words<'_>, line: &mut ScriptLine) -> Option<()>
-    ensures { MatchOption result ((value : ScriptLine) → SaysSending (left words.entry) value → ⊥) (λ _. SaysSending (left words.entry) line.new) }
+    ensures { MatchOption result ((value : ScriptLine) → SaysSending (remaining_words words.entry) value → ⊥) (λ _. SaysSending (remaining_words words.entry) line.new) }
 {
     let mut rest = words;
     match rest.fixed(b"-") {

@@ -1,7 +1,7 @@
 //! Lists of objects (GlobalPlatform Card Specification 2.3.1, 11.4).
 
 ghost use Rattle.std.specs.Prelude.{◌≡◌};
-ghost use Rattle.script_lines.specs.Prelude.{MayBegin, Reads, SaysListing, left, listing_command, plain_of};
+ghost use Rattle.script_lines.specs.Prelude.{MayBegin, Reads, SaysListing, command_of_plain, listing_command, remaining_words};
 
 use crate::plain::Plain;
 use crate::values::{byte, bytes};
@@ -20,7 +20,7 @@ impl Listing {
     /// GET STATUS with this P2.
     #[inline(never)]
     pub fn command(&self, p2: u8) -> Plain
-        ensures { plain_of result ≡ listing_command p2 self.now }
+        ensures { command_of_plain result ≡ listing_command p2 self.now }
     {
         let mut body = DataField::new();
         body.push(0x4f);
@@ -36,7 +36,7 @@ impl Listing {
 
 // The bytes that each AID begins with, or none where the words end.
 fn may_begin(mut words: Words<'_>) -> Option<ArrayVec<u8, 16>>
-    ensures { Reads (λ prefix. MayBegin (left words.entry) prefix.items) result }
+    ensures { Reads (λ prefix. MayBegin (remaining_words words.entry) prefix.items) result }
 {
     match words.take() {
         None => Some(ArrayVec::new()),
@@ -51,7 +51,7 @@ fn may_begin(mut words: Words<'_>) -> Option<ArrayVec<u8, 16>>
 /// Reads `P1 [AID]`, the words after `list` or `more`.
 #[inline(never)]
 pub fn read(mut words: Words<'_>) -> Option<Listing>
-    ensures { Reads (SaysListing (left words.entry)) result }
+    ensures { Reads (SaysListing (remaining_words words.entry)) result }
 {
     let p1 = byte(words.take()?)?;
     let prefix = may_begin(words)?;

@@ -1,7 +1,7 @@
 //! Executable Load Files to load (GlobalPlatform Card Specification 2.3.1, 11.6).
 
 ghost use Rattle.std.specs.Prelude.{◌≡◌, ◌≤◌, [], ◌∷◌, drop, length, take};
-ghost use Rattle.script_lines.specs.Prelude.{Reads, SaysContent, SaysLoad, SpellsDomain, aid_or_none, beginning_load, block_element, content_bytes, hash_of, hash_word, install_command, left, length_field, plain_of};
+ghost use Rattle.script_lines.specs.Prelude.{Reads, SaysContent, SaysLoad, SpellsDomain, aid_or_none, beginning_load, block_element, command_of_plain, content_bytes, hash_of, hash_word, install_command, length_field, remaining_words};
 
 use crate::block::tag_and_length;
 use crate::content::{Piece, part};
@@ -74,7 +74,7 @@ fn hash(word: &[u8]) -> Option<Option<HashFunction>>
 
 // `fill N BB`
 fn filled(mut words: Words<'_>) -> Option<Fill>
-    ensures { Reads (λ fill. SaysContent (left words.entry) (Content.Filled fill)) result }
+    ensures { Reads (λ fill. SaysContent (remaining_words words.entry) (Content.Filled fill)) result }
 {
     words.fixed(b"fill")?;
     let count = count(words.take()?)?;
@@ -83,7 +83,7 @@ fn filled(mut words: Words<'_>) -> Option<Fill>
 }
 
 fn held(words: Words<'_>) -> Option<Content>
-    ensures { Reads (SaysContent (left words.entry)) result }
+    ensures { Reads (SaysContent (remaining_words words.entry)) result }
 {
     if let Some(fill) = filled(words) {
         return Some(Content::Filled(fill));
@@ -97,7 +97,7 @@ fn held(words: Words<'_>) -> Option<Content>
 /// Reads `FILE DOMAIN HASH HEX` or `FILE DOMAIN HASH fill N BB`, the words after `load`.
 #[inline(never)]
 pub fn read(mut words: Words<'_>) -> Option<LoadFile>
-    ensures { Reads (SaysLoad (left words.entry)) result }
+    ensures { Reads (SaysLoad (remaining_words words.entry)) result }
 {
     let file = aid(words.take()?)?;
     let domain = domain(words.take()?)?;
@@ -125,7 +125,7 @@ fn name(aid: &Option<Aid>) -> &[u8]
 /// INSTALL for load of a file, for a security domain if one is named, with a Load File Data Block Hash or no bytes.
 pub fn install_for_load(tokens: &Tokens, file: &Aid, domain: &Option<Aid>, hash: &[u8]) -> Plain
     requires { length hash.now ≤ 32 }
-    ensures { plain_of result ≡ install_command tokens.now 0x02 (file.now ∷ aid_or_none domain.now ∷ hash.now ∷ [] ∷ []) }
+    ensures { command_of_plain result ≡ install_command tokens.now 0x02 (file.now ∷ aid_or_none domain.now ∷ hash.now ∷ [] ∷ []) }
 {
     let fields = four_fields(file.as_bytes(), name(domain), hash, &[]);
     install(tokens, 0x02, fields)
@@ -178,7 +178,7 @@ impl LoadFile {
 
     /// INSTALL for load.
     pub fn install(&self, tokens: &Tokens) -> Plain
-        ensures { plain_of result ≡ beginning_load tokens.now self.now }
+        ensures { command_of_plain result ≡ beginning_load tokens.now self.now }
     {
         install_for_load(tokens, &self.file, &self.domain, &self.hash_value())
     }

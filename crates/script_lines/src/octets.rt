@@ -1,6 +1,6 @@
 //! Bytes in one word (this profile's own).
 
-ghost use Rattle.script_lines.specs.Words.{Reads, SaysBytes, left};
+ghost use Rattle.script_lines.specs.Words.{Reads, SaysBytes, remaining_words};
 
 use crate::values::bytes;
 use crate::words::Words;
@@ -9,7 +9,7 @@ use arrayvec::ArrayVec;
 /// Reads `HEX`, the one word that is left.
 #[inline(never)]
 pub fn read(words: Words<'_>) -> Option<ArrayVec<u8, 258>>
-    ensures { Reads (SaysBytes (left words.entry)) result }
+    ensures { Reads (SaysBytes (remaining_words words.entry)) result }
 {
     let bytes = bytes(words.last()?)?;
     Some(bytes)

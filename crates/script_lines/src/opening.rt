@@ -1,6 +1,6 @@
 //! Sessions to open (GlobalPlatform Amendment D, 7.1.1, 7.1.2).
 
-ghost use Rattle.script_lines.specs.Prelude.{Reads, SaysOpen, left};
+ghost use Rattle.script_lines.specs.Prelude.{Reads, SaysOpen, remaining_words};
 
 use crate::values::{array, byte, level};
 use crate::words::Words;
@@ -17,7 +17,7 @@ pub struct Opening {
 /// Reads `VV LL CHALLENGE`, the words after `open`.
 #[inline(never)]
 pub fn read(mut words: Words<'_>) -> Option<Opening>
-    ensures { Reads (SaysOpen (left words.entry)) result }
+    ensures { Reads (SaysOpen (remaining_words words.entry)) result }
 {
     let version = byte(words.take()?)?;
     let level = level(words.take()?)?;

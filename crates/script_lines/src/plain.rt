@@ -1,7 +1,7 @@
 //! Commands to send in a session (GlobalPlatform Amendment D, 6.2).
 
 ghost use Rattle.std.specs.Prelude.{◌≡◌, ◌↔◌, [], IsTrue, MatchOption};
-ghost use Rattle.script_lines.specs.Prelude.{IsPlain, Reads, SaysSend, SpellsPlain, apdu_of, left, plain_of};
+ghost use Rattle.script_lines.specs.Prelude.{IsPlain, Reads, SaysSend, SpellsPlain, apdu_of, command_of_plain, remaining_words};
 ghost use Rattle.script_lines.specs.declared.plain.Plain.{Plain};
 
 use crate::values::front;
@@ -40,7 +40,7 @@ impl Plain {
 
     /// The command.
     pub fn command(&self) -> Command<'_>
-        ensures { apdu_of result ≡ plain_of self.now }
+        ensures { apdu_of result ≡ command_of_plain self.now }
     {
         Command {
             class: 0x80,
@@ -82,7 +82,7 @@ impl Plain {
 
     /// Becomes what `HEX` says, the word after `send` or `bad`.
     pub fn read(&mut self, words: Words<'_>) -> Option<()>
-        ensures { MatchOption result ((value : Plain) → SaysSend (left words.entry) value → ⊥) (λ _. SaysSend (left words.entry) self.new) }
+        ensures { MatchOption result ((value : Plain) → SaysSend (remaining_words words.entry) value → ⊥) (λ _. SaysSend (remaining_words words.entry) self.new) }
     {
         self.spelled(words.last()?)
     }
@@ -91,7 +91,7 @@ impl Plain {
 /// The same, as a value.
 #[inline(never)]
 pub fn read(words: Words<'_>) -> Option<Plain>
-    ensures { Reads (SaysSend (left words.entry)) result }
+    ensures { Reads (SaysSend (remaining_words words.entry)) result }
 {
     let mut command = Plain::new();
     command.read(words)?;

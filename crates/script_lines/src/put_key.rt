@@ -2,7 +2,7 @@
 
 ghost use Rattle.std.specs.Prelude.{◌≡◌, ◌∷◌};
 ghost use Rattle.std.specs.List.{flat_map};
-ghost use Rattle.script_lines.specs.Prelude.{Reads, SaysPutKey, SpellNewKeys, SpellOne, SpellSized, key_field, keys_of, left, plain_of, put_key_p2, putting_keys, sent_under};
+ghost use Rattle.script_lines.specs.Prelude.{Reads, SaysPutKey, SpellNewKeys, SpellOne, SpellSized, command_of_plain, key_field, key_list, put_key_p2, putting_keys, remaining_words, sent_under};
 
 use crate::key_field::push_key_field;
 use crate::keys::{OfSize, Trio, three_keys};
@@ -29,7 +29,7 @@ pub struct Putting {
 
 // One key of `N` bytes.
 fn one<const N: usize>(words: Words<'_>) -> Option<[u8; N]>
-    ensures { Reads (SpellOne N (left words.entry)) result }
+    ensures { Reads (SpellOne N (remaining_words words.entry)) result }
 {
     let key = array(words.last()?)?;
     Some(key)
@@ -37,7 +37,7 @@ fn one<const N: usize>(words: Words<'_>) -> Option<[u8; N]>
 
 // One key of `N` bytes, or three.
 fn new_keys<const N: usize>(words: Words<'_>) -> Option<NewKeys<N>>
-    ensures { Reads (SpellNewKeys N (left words.entry)) result }
+    ensures { Reads (SpellNewKeys N (remaining_words words.entry)) result }
 {
     if let Some(key) = one(words) {
         return Some(NewKeys::One(key));
@@ -49,7 +49,7 @@ fn new_keys<const N: usize>(words: Words<'_>) -> Option<NewKeys<N>>
 }
 
 fn sized(words: Words<'_>) -> Option<OfSize<NewKeys<16>, NewKeys<24>, NewKeys<32>>>
-    ensures { Reads (SpellSized (left words.entry)) result }
+    ensures { Reads (SpellSized (remaining_words words.entry)) result }
 {
     if let Some(keys) = new_keys(words) {
         return Some(OfSize::Aes128(keys));
@@ -66,7 +66,7 @@ fn sized(words: Words<'_>) -> Option<OfSize<NewKeys<16>, NewKeys<24>, NewKeys<32
 /// Reads `OLD NEW KEY [KEY KEY]`, the words after `putkey`.
 #[inline(never)]
 pub fn read(mut words: Words<'_>) -> Option<Putting>
-    ensures { Reads (SaysPutKey (left words.entry)) result }
+    ensures { Reads (SaysPutKey (remaining_words words.entry)) result }
 {
     let replaced = byte(words.take()?)?;
     let version = byte(words.take()?)?;
@@ -81,7 +81,7 @@ pub fn read(mut words: Words<'_>) -> Option<Putting>
 impl<const N: usize> NewKeys<N> {
     // P2: the key identifier 01, and whether several keys come.
     fn p2(&self) -> u8
-        ensures { result ≡ put_key_p2 (keys_of self.now) }
+        ensures { result ≡ put_key_p2 (key_list self.now) }
     {
         match self {
             NewKeys::One(_) => 0x01,
@@ -92,7 +92,7 @@ impl<const N: usize> NewKeys<N> {
     // The new key version number and the key fields.
     fn body<K: BlockKey, D: BlockKey>(&self, version: u8, dek: &D) -> DataField
         requires { N ≡ K.LEN }
-        ensures { result.items ≡ version ∷ flat_map (λ key. key_field (sent_under (D.key_bytes dek.now) key)) (keys_of self.now) }
+        ensures { result.items ≡ version ∷ flat_map (λ key. key_field (sent_under (D.key_bytes dek.now) key)) (key_list self.now) }
     {
         let mut body = DataField::new();
         body.push(version);
@@ -111,7 +111,7 @@ impl<const N: usize> NewKeys<N> {
 impl Putting {
     /// PUT KEY, with keys that are enciphered under Key-DEK.
     pub fn command<D: BlockKey>(&self, dek: &D) -> Plain
-        ensures { plain_of result ≡ putting_keys (D.key_bytes dek.now) self.now }
+        ensures { command_of_plain result ≡ putting_keys (D.key_bytes dek.now) self.now }
     {
         let version = self.version;
         let (p2, body) = match &self.keys {

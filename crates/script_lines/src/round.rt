@@ -3,7 +3,7 @@
 ghost use Rattle.std.specs.Prelude.{◌≡◌, ◌+◌, ◌<◌, ◌≤◌, ◌++◌, [], decimal, codes, slice_get};
 ghost use Rattle.std.specs.Int.{to_be_bytes};
 ghost use Rattle.std.specs.Option.{option_map};
-ghost use Rattle.script_lines.specs.Prelude.{application_of, array_vec_len, challenge_of, digits_of, file_of, lines_of};
+ghost use Rattle.script_lines.specs.Prelude.{application_of, array_vec_len, challenge_of, digits_of, lines_of, round_file};
 
 use arrayvec::ArrayVec;
 use itoa::Buffer;
@@ -37,7 +37,7 @@ impl Round {
     // Appends the AID of the file, `f0X01`.
     fn push_file(&self, line: &mut MillLine)
         requires { array_vec_len line.old + 12 ≤ 64 }
-        ensures text { line.new.items ≡ line.old.items ++ file_of self.now }
+        ensures text { line.new.items ≡ line.old.items ++ round_file self.now }
         ensures len { array_vec_len line.new ≡ array_vec_len line.old + 12 }
     {
         push_word(b"f0", line);
@@ -68,7 +68,7 @@ impl Round {
 
     fn push_load(&self, line: &mut MillLine)
         requires { array_vec_len line.old ≡ 0 }
-        ensures { line.new.items ≡ line.old.items ++ codes "load " ++ file_of self.now ++ codes " - none fill " ++ decimal self.now.count ++ codes " " ++ digits_of self.now.byte }
+        ensures { line.new.items ≡ line.old.items ++ codes "load " ++ round_file self.now ++ codes " - none fill " ++ decimal self.now.count ++ codes " " ++ digits_of self.now.byte }
     {
         push_word(b"load ", line);
         self.push_file(line);
@@ -80,7 +80,7 @@ impl Round {
 
     fn push_install(&self, line: &mut MillLine)
         requires { array_vec_len line.old ≡ 0 }
-        ensures { line.new.items ≡ line.old.items ++ codes "install 04 " ++ file_of self.now ++ codes " " ++ application_of self.now ++ codes " " ++ application_of self.now ++ codes " 00 c900" }
+        ensures { line.new.items ≡ line.old.items ++ codes "install 04 " ++ round_file self.now ++ codes " " ++ application_of self.now ++ codes " " ++ application_of self.now ++ codes " 00 c900" }
     {
         push_word(b"install 04 ", line);
         self.push_file(line);

@@ -2,7 +2,7 @@
 
 ghost use Rattle.std.specs.Prelude.{◌≡◌, ◌≤◌, codes, length};
 ghost use Rattle.tokens_receipts.specs.Token as approved;
-ghost use Rattle.script_lines.specs.Prelude.{Reads, SaysTokens, key_of, left, token_made, token_verb};
+ghost use Rattle.script_lines.specs.Prelude.{Reads, SaysTokens, remaining_words, sized_key, token_made, token_verb};
 
 use crate::keys::{Key, OfSize, key};
 use crate::words::Words;
@@ -21,7 +21,7 @@ pub enum Tokens {
 // The token under a key.
 fn token_under(key: &Key, p1: u8, p2: u8, before: &[u8]) -> [u8; 16]
     requires { length before.now ≤ 255 }
-    ensures { result ≡ approved.token (key_of key.now) p1 p2 before.now }
+    ensures { result ≡ approved.token (sized_key key.now) p1 p2 before.now }
 {
     match key {
         OfSize::Aes128(key) => token(&SealingAes128::from_key(key), p1, p2, before),
@@ -50,7 +50,7 @@ impl Tokens {
 
 /// Reads `none` or `KEY`, the word after `tokenkey`.
 pub fn read(words: Words<'_>) -> Option<Tokens>
-    ensures { Reads (λ tokens. (token_verb tokens ≡ codes "tokenkey") × SaysTokens (left words.entry) tokens) result }
+    ensures { Reads (λ tokens. (token_verb tokens ≡ codes "tokenkey") × SaysTokens (remaining_words words.entry) tokens) result }
 {
     let word = words.last()?;
     if word == b"none".as_slice() {
@@ -62,7 +62,7 @@ pub fn read(words: Words<'_>) -> Option<Tokens>
 
 /// Reads `KEY`, the word after `badtoken`.
 pub fn read_damaged(words: Words<'_>) -> Option<Tokens>
-    ensures { Reads (λ tokens. (token_verb tokens ≡ codes "badtoken") × SaysTokens (left words.entry) tokens) result }
+    ensures { Reads (λ tokens. (token_verb tokens ≡ codes "badtoken") × SaysTokens (remaining_words words.entry) tokens) result }
 {
     let key = key(words.last()?)?;
     Some(Tokens::Damaged(key))

@@ -1,7 +1,7 @@
 //! The first words of lines that send commands to the card (this profile's own).
 
 ghost use Rattle.std.specs.Prelude.{◌≡◌};
-ghost use Rattle.script_lines.specs.Prelude.{Reads, word_of};
+ghost use Rattle.script_lines.specs.Prelude.{Reads, verb_word};
 
 /// The first word of a line that sends commands: it tells the form of the line.
 #[derive(Clone, Copy)]
@@ -26,7 +26,7 @@ pub enum Verb {
 impl Verb {
     /// The verb that a word is, if it is one.
     pub fn read(word: &[u8]) -> Option<Verb>
-        ensures { Reads (λ verb. word.now ≡ word_of verb) result }
+        ensures { Reads (λ verb. word.now ≡ verb_word verb) result }
     {
         match word {
             b"select" => Some(Verb::Select),

@@ -1,7 +1,7 @@
 //! The words of a line, one after another (this profile's own).
 
 ghost use Rattle.std.specs.Prelude.{◌≡◌, ◌↔◌, ◌∷◌, ◌<◌, [], List, ℕ, length, take, slice_index, IsSome, MatchOption};
-ghost use Rattle.script_lines.specs.Words.{words_of, left, HasNoSpace};
+ghost use Rattle.script_lines.specs.Words.{words_of, remaining_words, HasNoSpace};
 
 /// The words of a line that are left.
 #[derive(Clone, Copy)]
@@ -29,14 +29,14 @@ pub fn cut(text: &[u8]) -> Option<(&[u8], &[u8])>
 impl<'a> Words<'a> {
     /// All words of a text.
     pub fn new(text: &'a [u8]) -> Words<'a>
-        ensures { left result ≡ words_of text.now }
+        ensures { remaining_words result ≡ words_of text.now }
     {
         Words { rest: Some(text) }
     }
 
     /// Takes the next word, if one is left.
     pub fn take(&mut self) -> Option<&'a [u8]>
-        ensures { MatchOption result (left self.old ≡ []) (λ word. left self.old ≡ word.now ∷ left self.new) }
+        ensures { MatchOption result (remaining_words self.old ≡ []) (λ word. remaining_words self.old ≡ word.now ∷ remaining_words self.new) }
     {
         let text = self.rest?;
         match cut(text) {
@@ -53,7 +53,7 @@ impl<'a> Words<'a> {
 
     /// Takes this very word.
     pub fn fixed(&mut self, wanted: &[u8]) -> Option<()>
-        ensures { MatchOption result ((rest : List (List ℕ)) → left self.old ≡ wanted.now ∷ rest → ⊥) (λ _. left self.old ≡ wanted.now ∷ left self.new) }
+        ensures { MatchOption result ((rest : List (List ℕ)) → remaining_words self.old ≡ wanted.now ∷ rest → ⊥) (λ _. remaining_words self.old ≡ wanted.now ∷ remaining_words self.new) }
     {
         if self.take()? == wanted {
             Some(())
@@ -64,7 +64,7 @@ impl<'a> Words<'a> {
 
     /// The one word that is left.
     pub fn last(mut self) -> Option<&'a [u8]>
-        ensures { MatchOption result ((word : List ℕ) → left self.entry ≡ word ∷ [] → ⊥) (λ word. left self.entry ≡ word.now ∷ []) }
+        ensures { MatchOption result ((word : List ℕ) → remaining_words self.entry ≡ word ∷ [] → ⊥) (λ word. remaining_words self.entry ≡ word.now ∷ []) }
     {
         let word = self.take()?;
         self.end()?;
@@ -73,7 +73,7 @@ impl<'a> Words<'a> {
 
     /// Whether no word is left.
     pub fn end(&self) -> Option<()>
-        ensures { IsSome result ↔ (left self.now ≡ []) }
+        ensures { IsSome result ↔ (remaining_words self.now ≡ []) }
     {
         match self.rest {
             None => Some(()),

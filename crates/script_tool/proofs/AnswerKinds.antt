@@ -2,7 +2,7 @@
 use Rattle.std.proofs.Common.{◌≡◌, ◌⊎◌, ℕ, refl, inl, inr}
 use Rattle.std.specs.Prelude.{◌↔◌, List, Result, Err}
 use Rattle.script_tool.specs.HostLines.{is_difference}
-use Rattle.script_tool.specs.Printed.{kind_of, Printed, Nothing}
+use Rattle.script_tool.specs.Printed.{kind_played, Printed, Nothing}
 use Rattle.script_tool.specs.Kinds.{is_difference_kind}
 use Rattle.script_lines.specs.Line.{HasNoForm, SaysLine}
 use Rattle.script_lines.specs.declared.line.ScriptLine.{ScriptLine}
@@ -11,7 +11,7 @@ use Rattle.script_tool.specs.declared.played.StepStop.{StepStop}
 use Rattle.script_tool.specs.declared.played.StepStop.TheVariants.{Form}
 
 -- a difference is of the kind of one
-pub differs_as : (printed : Printed) → is_difference_kind (kind_of printed) ≡ is_difference printed
+pub differs_as : (printed : Printed) → is_difference_kind (kind_played printed) ≡ is_difference printed
 differs_as Nothing = refl
 differs_as _ = refl
 

@@ -11,9 +11,9 @@ use Rattle.scp03_card.specs.Session.{Session}
 use Rattle.scp03_host.specs.Wrapped.{room_for}
 use Rattle.script_tool.proofs.PlayedRules.{continues_on}
 use Rattle.script_tool.specs.Host.{Host, own_session}
-use Rattle.script_tool.specs.InSession.{in_session, protecting, with_some}
+use Rattle.script_tool.specs.InSession.{for_session, protecting, with_some}
 use Rattle.script_tool.specs.Kept.{RepresentsHost}
-use Rattle.script_lines.specs.Load.{beginning_load, loading}
+use Rattle.script_lines.specs.Load.{beginning_load, block_command}
 use Rattle.script_tool.specs.Loading.{block_count, loading_all, loading_blocks, playing_load}
 use Rattle.script_tool.specs.Played.{Continues, ContinuesWith, IsBroken, IsPlayed, Leads, Plays}
 use Rattle.script_tool.specs.Printed.{Printed, Reply, Said, status_printed}
@@ -74,17 +74,17 @@ all_sent link old new talk size number bytes kept _ at = absurd at
 abbrev pub Sent : {L : Type 0} → CardLink L → L → L → Apdu → HostState → HostState → Result Printout LinkFailed → Type 0
 Sent link old new command kept after result =
     (whole : Host) (rest : Host → List ℕ → ℕ → Talk) → RepresentsHost kept whole
-    → Continues link old new (in_session whole (λ session. protecting whole session false command rest)) rest after result
+    → Continues link old new (for_session whole (λ session. protecting whole session false command rest)) rest after result
 
 one_block : {L : Type 0} (link : CardLink L) (a b c : L) (talk : Talk) (size left number : ℕ) (bytes : List ℕ) (kept after : HostState) (printed : Printed)
     (result : Result Printout LinkFailed) → is_done printed → AtBlock link a b talk size (suc left) number bytes kept printed
-    → Sent link b c (loading (eqb left 0) number (take size bytes)) kept after result
+    → Sent link b c (block_command (eqb left 0) number (take size bytes)) kept after result
     → Continues link a c talk (loading_blocks size left (number + 1) (drop size bytes)) after result
 one_block link a b c talk size left number bytes kept after (Reply body status) result done at sends =
     let same : ◌≡◌ {A = Status} (record { 0 = status }) (record { 0 = 0x9000 }) = cc in
     let is : status ≡ 0x9000 = ap (λ (s : Status). s.0) same in
     let rest = loading_blocks size left (number + 1) (drop size bytes) in
-    let mid : Talk = in_session at.0 (λ session. protecting at.0 session false (loading (eqb left 0) number (take size bytes)) rest) in
+    let mid : Talk = for_session at.0 (λ session. protecting at.0 session false (block_command (eqb left 0) number (take size bytes)) rest) in
     let leads : Leads link a b talk mid = subst (λ (s : ℕ). Leads link a b talk (loading_blocks size (suc left) number bytes at.0 body s)) is at.1 in
     continues_on link a b c talk mid rest after result leads (sends at.0 rest at.2)
 one_block link a b c talk size left number bytes kept after (Said word) result done at sends = absurd (cc)
@@ -93,7 +93,7 @@ one_block link a b c talk size left number bytes kept after _ result done at sen
 -- the next block of those that a list makes
 pub next_block : {L : Type 0} (link : CardLink L) (a b c : L) (talk : Talk) (size count number : ℕ) (bytes : List ℕ) (kept after : HostState) (printed : Printed)
     (result : Result Printout LinkFailed) (command : Apdu) (block : List ℕ) → number < count → is_done printed
-    → command ≡ loading (eqb (number + 1) count) number block → block ≡ take size (drop (number * size) bytes)
+    → command ≡ block_command (eqb (number + 1) count) number block → block ≡ take size (drop (number * size) bytes)
     → AtBlock link a b talk size (count - number) number (drop (number * size) bytes) kept printed → Sent link b c command kept after result
     → Continues link a c talk (loading_blocks size (count - (number + 1)) (number + 1) (drop ((number + 1) * size) bytes)) after result
 next_block link a b c talk size count number bytes kept after printed result command block lt done is next at sends =
@@ -101,8 +101,8 @@ next_block link a b c talk size count number bytes kept after printed result com
     let here : List ℕ = drop (number * size) bytes in
     let more : count - number ≡ suc left = omega arith in
     let there : number * size + size ≡ (number + 1) * size = omega arith in
-    let sent : command ≡ loading (eqb left 0) number (take size here) =
-    is ∙ ap (λ (last : Bool). loading last number block) (is_last number count lt) ∙ ap (loading (eqb left 0) number) next in
+    let sent : command ≡ block_command (eqb left 0) number (take size here) =
+    is ∙ ap (λ (last : Bool). block_command last number block) (is_last number count lt) ∙ ap (block_command (eqb left 0) number) next in
     subst (λ (bytes : List ℕ). Continues link a c talk (loading_blocks size left (number + 1) bytes) after result)
     (drop-drop size (number * size) bytes ∙ ap (λ (n : ℕ). drop n bytes) there)
     (one_block link a b c talk size left number here kept after printed result done (subst (λ (n : ℕ). AtBlock link a b talk size n number here kept printed) more at)

@@ -5,27 +5,27 @@ use Rattle.scp03_card.specs.Offer.{Offer, card_cryptogram}
 use Rattle.scp03_card.specs.Session.{Session}
 use Rattle.scp03_host.specs.Begin.{answer_to, cryptogram_in}
 use Rattle.scp03_host.specs.Unwrapped.{status_in}
-use Rattle.scp03_host.specs.Wrapped.{having_sent, room_for, wrapped}
-use Rattle.script_lines.specs.Channel.{number_of}
+use Rattle.scp03_host.specs.Wrapped.{having_sent, room_for, wrapped_command}
+use Rattle.script_lines.specs.Channel.{channel_number}
 use Rattle.script_tool.specs.Closed.{ClosedIsSilent, EndsAtRefusals, RefusalsEnd}
-use Rattle.script_lines.specs.Command.{spelled}
+use Rattle.script_lines.specs.Command.{command_bytes}
 use Rattle.script_lines.specs.Delete.{deleting}
 use Rattle.script_lines.specs.Extradite.{extraditing}
 use Rattle.script_tool.specs.Host.{Host, Sessions, own_session, session_of, with_own, with_session}
-use Rattle.script_tool.specs.InPlain.{body_in, in_plain, selected}
-use Rattle.script_tool.specs.InSession.{Rest, after_reply, awaiting, in_session, printing, protecting, sending, spoiled, with_some}
+use Rattle.script_tool.specs.InPlain.{after_select, body_in, send_in_plain}
+use Rattle.script_tool.specs.InSession.{Rest, after_reply, awaiting, for_session, printing, protecting, sending, with_bad_mac, with_some}
 use Rattle.script_lines.specs.Install.{installing}
 use Rattle.script_lines.specs.Life.{changing_life}
 use Rattle.script_lines.specs.Listing.{listing_command}
-use Rattle.script_lines.specs.Load.{beginning_load, block_element, content_bytes, loading}
+use Rattle.script_lines.specs.Load.{beginning_load, block_command, block_element, content_bytes}
 use Rattle.script_tool.specs.Loading.{block_count, loading_all, loading_blocks, playing_load}
-use Rattle.script_tool.specs.Opening.{authenticated, authenticating, counter_in, offer_under, offered_by, updated, updating, with_field}
+use Rattle.script_tool.specs.Opening.{after_authenticate, after_update, authenticating, counter_in, offer_under, offered_by, updating, with_field}
 use Rattle.script_tool.specs.Play.{playing_control, playing_exchange}
 use Rattle.script_tool.specs.Printed.{Cryptogram, Reply, Said}
 use Rattle.script_lines.specs.PutKey.{putting_keys}
 use Rattle.script_lines.specs.Select.{selecting}
 use Rattle.script_lines.specs.Selectable.{making_selectable}
-use Rattle.script_lines.specs.Send.{plain_of}
+use Rattle.script_lines.specs.Send.{command_of_plain}
 use Rattle.script_lines.specs.Store.{storing}
 use Rattle.script_tool.specs.Talk.{Ends, Plain, Refused, Taken, Talk}
 use Rattle.script_lines.specs.declared.channel.Channel.{Channel}
@@ -55,7 +55,7 @@ within : (own : Option Session) (host : Host) (go : Session → Talk) → ((sess
 within None host go each = tt
 within (Some session) host go each = each session
 
-plain_ends : (host : Host) (bytes : List ℕ) (rest : Rest) → RestEnds rest → EndsAtRefusals (in_plain host bytes rest)
+plain_ends : (host : Host) (bytes : List ℕ) (rest : Rest) → RestEnds rest → EndsAtRefusals (send_in_plain host bytes rest)
 plain_ends host bytes rest ends reply =
     either (nat_lt (length reply) 2) (Ends (Said Short) host) (rest host (body_in reply) (status_in reply)) tt (ends host (body_in reply) (status_in reply))
 
@@ -71,7 +71,7 @@ awaiting_ends host sent bytes rest ends reply =
 protecting_ends : (host : Host) (session : Session) (bad : Bool) (command : Apdu) (rest : Rest) → RestEnds rest → EndsAtRefusals (protecting host session bad command rest)
 protecting_ends host session bad command rest ends =
     let sent : Session = having_sent session command in
-    let bytes : List ℕ = spoiled bad (spelled (wrapped session command (number_of host.channel))) in
+    let bytes : List ℕ = with_bad_mac bad (command_bytes (wrapped_command session command (channel_number host.channel))) in
     either (nat_lt (room_for session.level) (length command.body)) (Ends (Said TooLong) host) (awaiting host sent bytes rest) tt (awaiting_ends host sent bytes rest ends)
 
 sending_ends : (bad : Bool) (host : Host) (command : Apdu) → EndsAtRefusals (sending bad host command)
@@ -82,9 +82,9 @@ sending_ends bad host command =
 blocks_end : (size left number : ℕ) (bytes : List ℕ) → RestEnds (loading_blocks size left number bytes)
 blocks_end size zero number bytes host body status = tt
 blocks_end size (suc left) number bytes host body status =
-    let command = loading (left == 0) number (take size bytes) in
+    let command = block_command (left == 0) number (take size bytes) in
     let rest = loading_blocks size left (number + 1) (drop size bytes) in
-    either (status == 0x9000) (in_session host (λ session. protecting host session false command rest)) (Ends (Reply body status) host)
+    either (status == 0x9000) (for_session host (λ session. protecting host session false command rest)) (Ends (Reply body status) host)
     (within (own_session host) host (λ session. protecting host session false command rest)
     (λ session. protecting_ends host session false command rest (blocks_end size left (number + 1) (drop size bytes)))) tt
 
@@ -97,7 +97,7 @@ load_ends host file =
 
 authenticating_ends : (host : Host) (o : Opening) (offer : Offer) (counter : List ℕ) → EndsAtRefusals (authenticating host o offer counter)
 authenticating_ends host o offer counter =
-    plain_ends host (spelled (answer_to offer o.level (number_of host.channel))) (authenticated o offer counter) (λ after body status. tt)
+    plain_ends host (command_bytes (answer_to offer o.level (channel_number host.channel))) (after_authenticate o offer counter) (λ after body status. tt)
 
 offered_ends : (host : Host) (o : Opening) (field : List ℕ) → EndsAtRefusals (offered_by host o field)
 offered_ends host o field =
@@ -105,18 +105,18 @@ offered_ends host o field =
     either (bytes_eq (cryptogram_in field) (card_cryptogram offer)) (authenticating host o offer (counter_in field)) (Ends (Cryptogram (counter_in field)) host)
     (authenticating_ends host o offer (counter_in field)) tt
 
-updated_ends : (o : Opening) → RestEnds (updated o)
+updated_ends : (o : Opening) → RestEnds (after_update o)
 updated_ends o host field status =
     let fresh : Host = with_own None host in
     either (status == 0x9000) (with_field fresh o field) (Ends (Reply [] status) host)
     (either (length field == 32) (offered_by fresh o field) (Ends (Said Short) fresh) (offered_ends fresh o field) tt) tt
 
 exchange_ends : (host : Host) (e : the_exchange.Exchange) → EndsAtRefusals (playing_exchange host e)
-exchange_ends host (Select aid) = plain_ends host (spelled (selecting (number_of host.channel) aid)) selected (λ after body status. tt)
+exchange_ends host (Select aid) = plain_ends host (command_bytes (selecting (channel_number host.channel) aid)) after_select (λ after body status. tt)
 exchange_ends host (Raw bytes) = plain_ends host bytes.items printing (λ after body status. tt)
-exchange_ends host (Open opening) = plain_ends host (spelled (updating (number_of host.channel) opening)) (updated opening) (updated_ends opening)
-exchange_ends host (Send command) = sending_ends false host (plain_of command)
-exchange_ends host (Bad command) = sending_ends true host (plain_of command)
+exchange_ends host (Open opening) = plain_ends host (command_bytes (updating (channel_number host.channel) opening)) (after_update opening) (updated_ends opening)
+exchange_ends host (Send command) = sending_ends false host (command_of_plain command)
+exchange_ends host (Bad command) = sending_ends true host (command_of_plain command)
 exchange_ends host (Install installation) = sending_ends false host (installing host.tokens installation)
 exchange_ends host (Selectable aid) = sending_ends false host (making_selectable host.tokens aid)
 exchange_ends host (Extradite extradition) = sending_ends false host (extraditing host.tokens extradition)
@@ -141,7 +141,7 @@ refusals_end host (line.Exchange e) = exchange_ends host e
 refusals_end host (line.Quiet e) = exchange_ends host e
 
 -- a line of a session, with none there
-nothing_sent : (host : Host) (go : Session → Talk) → own_session host ≡ None → in_session host go ≡ Ends (Said NoSession) host
+nothing_sent : (host : Host) (go : Session → Talk) → own_session host ≡ None → for_session host go ≡ Ends (Said NoSession) host
 nothing_sent host go none = ap (λ (own : Option Session). with_some own host go) none
 
 pub closed_is_silent : ClosedIsSilent

@@ -5,8 +5,8 @@ use Rattle.scp03_card.specs.Levels.{has_c_decryption}
 use Rattle.scp03_host.specs.Wrapped.{room_for}
 use Rattle.script_tool.proofs.SendsAtMost.{SendsAtMost, most_if, most_in, most_protecting}
 use Rattle.script_tool.specs.Host.{Host, own_session}
-use Rattle.script_tool.specs.InSession.{in_session, protecting}
-use Rattle.script_lines.specs.Load.{beginning_load, block_element, content_bytes, length_field, loading}
+use Rattle.script_tool.specs.InSession.{for_session, protecting}
+use Rattle.script_lines.specs.Load.{beginning_load, block_command, block_element, content_bytes, length_field}
 use Rattle.script_tool.specs.Loading.{block_count, loading_all, loading_blocks, playing_load}
 use Rattle.script_tool.specs.Printed.{Reply}
 use Rattle.script_tool.specs.Talk.{Ends}
@@ -45,9 +45,9 @@ few_blocks level bytes most = blocks_by (has_c_decryption level) (length bytes) 
 most_blocks : (size left number : ℕ) (bytes : List ℕ) (host : Host) (body : List ℕ) (status : ℕ) → SendsAtMost (loading_blocks size left number bytes host body status) left
 most_blocks size zero number bytes host body status = tt
 most_blocks size (suc left) number bytes host body status =
-    let command = loading (left == 0) number (take size bytes) in
+    let command = block_command (left == 0) number (take size bytes) in
     let rest = loading_blocks size left (number + 1) (drop size bytes) in
-    most_if (suc left) (status == 0x9000) (in_session host (λ session. protecting host session false command rest)) (Ends (Reply body status) host)
+    most_if (suc left) (status == 0x9000) (for_session host (λ session. protecting host session false command rest)) (Ends (Reply body status) host)
     (most_in (suc left) (own_session host) host (λ session. protecting host session false command rest)
     (λ session. most_protecting left (suc left) (omega arith) host session false command rest (most_blocks size left (number + 1) (drop size bytes)))) tt
 

@@ -4,14 +4,14 @@ use Rattle.script_tool.proofs.FewBlocks.{most_load}
 use Rattle.script_tool.proofs.FitsBlocks.{said_fits}
 use Rattle.script_tool.proofs.SendsAtMost.{SendsAtMost, goes_most, most_in, most_open, most_plain, most_protecting, most_sending}
 use Rattle.script_lines.proofs.WideWords.{load_wide, other_wide, wide, words_wide}
-use Rattle.script_lines.specs.Channel.{number_of}
-use Rattle.script_lines.specs.Command.{spelled}
+use Rattle.script_lines.specs.Channel.{channel_number}
+use Rattle.script_lines.specs.Command.{command_bytes}
 use Rattle.script_tool.specs.Count.{FewCommands, command_count}
 use Rattle.script_lines.specs.Delete.{deleting}
 use Rattle.script_lines.specs.Exchange.{SaysExchange}
 use Rattle.script_lines.specs.Extradite.{extraditing}
 use Rattle.script_tool.specs.Host.{Host, own_session}
-use Rattle.script_tool.specs.InPlain.{selected}
+use Rattle.script_tool.specs.InPlain.{after_select}
 use Rattle.script_tool.specs.InSession.{printing, protecting}
 use Rattle.script_lines.specs.Install.{installing}
 use Rattle.script_lines.specs.Life.{changing_life}
@@ -22,7 +22,7 @@ use Rattle.script_tool.specs.Printed.{Nothing}
 use Rattle.script_lines.specs.PutKey.{putting_keys}
 use Rattle.script_lines.specs.Select.{selecting}
 use Rattle.script_lines.specs.Selectable.{making_selectable}
-use Rattle.script_lines.specs.Send.{plain_of}
+use Rattle.script_lines.specs.Send.{command_of_plain}
 use Rattle.script_lines.specs.Store.{storing}
 use Rattle.script_tool.specs.Talk.{Ends, Event, Goes, Talk}
 use Rattle.script_lines.specs.Words.{words_of}
@@ -38,11 +38,11 @@ most_of (Load file) = 253
 most_of _ = 2
 
 most_exchange : (host : Host) (e : the_type.Exchange) → FitsBlocks e → SendsAtMost (playing_exchange host e) (most_of e)
-most_exchange host (Select aid) fits = most_plain 1 2 (omega arith) host (spelled (selecting (number_of host.channel) aid)) selected (λ after body status. tt)
+most_exchange host (Select aid) fits = most_plain 1 2 (omega arith) host (command_bytes (selecting (channel_number host.channel) aid)) after_select (λ after body status. tt)
 most_exchange host (Raw bytes) fits = most_plain 1 2 (omega arith) host bytes.items printing (λ after body status. tt)
 most_exchange host (Open opening) fits = most_open host opening
-most_exchange host (Send command) fits = most_sending false host (plain_of command)
-most_exchange host (Bad command) fits = most_sending true host (plain_of command)
+most_exchange host (Send command) fits = most_sending false host (command_of_plain command)
+most_exchange host (Bad command) fits = most_sending true host (command_of_plain command)
 most_exchange host (Install installation) fits = most_sending false host (installing host.tokens installation)
 most_exchange host (Selectable aid) fits = most_sending false host (making_selectable host.tokens aid)
 most_exchange host (Extradite extradition) fits = most_sending false host (extraditing host.tokens extradition)

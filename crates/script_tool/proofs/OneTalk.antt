@@ -11,7 +11,7 @@ use Rattle.script_tool.specs.Host.{Host}
 use Rattle.script_tool.specs.Link.{LeadOn}
 use Rattle.script_tool.specs.Once.{OneTalk}
 use Rattle.script_tool.specs.Printed.{Printed}
-use Rattle.script_tool.specs.Talk.{Answered, Ends, Event, Goes, IsTaken, IsWhy, Plain, Refused, Reset, Resets, Sends, Taken, Takes, Talk}
+use Rattle.script_tool.specs.Talk.{Answered, Ends, Event, Goes, IsReplyTaken, IsWhy, Plain, Refused, Reset, Resets, Sends, Taken, Takes, Talk}
 
 why_once : (session : Session) (reply : List ℕ) (a b : ReplyRefusal) → IsWhy session reply a → IsWhy session reply b → a ≡ b
 why_once session reply Short Short x y = refl
@@ -25,7 +25,7 @@ why_once session reply Padding Mac x y = absurd (y.1 x.1)
 why_once session reply Padding Padding x y = refl
 
 -- a reply is taken for one thing
-taken_once : (session : Session) (reply : List ℕ) (a b : Taken) → IsTaken session reply a → IsTaken session reply b → a ≡ b
+taken_once : (session : Session) (reply : List ℕ) (a b : Taken) → IsReplyTaken session reply a → IsReplyTaken session reply b → a ≡ b
 taken_once session reply (Plain body status) (Plain other another) x y =
     (let same = one_plain_reply session reply body other status another x y in λ i. Plain (same.0 i) (same.1 i))
 taken_once session reply (Plain body status) (Refused why) x y = absurd (y.0 body status x)

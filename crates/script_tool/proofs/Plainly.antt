@@ -5,11 +5,11 @@ use Rattle.std.proofs.lemmas.Bool.{le-ltb, lt-ltb}
 use Rattle.scp03_host.specs.Unwrapped.{status_in}
 use Rattle.script_tool.proofs.TalkRules.{goes_nothing}
 use Rattle.script_tool.specs.Host.{Host, with_own}
-use Rattle.script_tool.specs.InPlain.{body_in, has_selected, in_plain, reading, selected}
+use Rattle.script_tool.specs.InPlain.{after_select, body_in, has_selected, reading, send_in_plain}
 use Rattle.script_tool.specs.InSession.{printing}
 use Rattle.script_tool.specs.Kept.{RepresentsHost, printed_of}
 use Rattle.script_tool.specs.Link.{Conveys}
-use Rattle.script_tool.specs.Played.{Continues, ContinuesWith, IsPlayed, IsRead, Leads, Plays}
+use Rattle.script_tool.specs.Played.{Continues, ContinuesWith, IsPlayed, IsReadInPlain, Leads, Plays}
 use Rattle.script_tool.specs.Printed.{Printed, Reply, Said, status_printed}
 use Rattle.script_tool.specs.Talk.{Answered, Ends, Goes, Talk}
 use Rattle.script_tool.specs.declared.host_state.HostState.{HostState}
@@ -20,7 +20,7 @@ use Rattle.script_tool.specs.declared.word.Word.TheVariants.{NoSession, Short}
 
 -- one command, after whose reply the talk is another
 answered : {L : Type 0} (link : CardLink L) (old new : L) (whole : Host) (bytes reply : List ℕ) (rest : Host → List ℕ → ℕ → Talk) (left : Talk)
-    → Conveys link old new (Answered bytes reply ∷ []) → reading whole reply rest ≡ left → Leads link old new (in_plain whole bytes rest) left
+    → Conveys link old new (Answered bytes reply ∷ []) → reading whole reply rest ≡ left → Leads link old new (send_in_plain whole bytes rest) left
 answered link old new whole bytes reply rest left conveyed is = record {
   events = Answered bytes reply ∷ [];
   goes = (refl, subst (λ t. Goes t [] left) (sym is) (goes_nothing left));
@@ -28,8 +28,8 @@ answered link old new whole bytes reply rest left conveyed is = record {
 }
 
 pub plain_continues : {L : Type 0} (link : CardLink L) (old new : L) (whole : Host) (bytes reply : List ℕ) (rest : Host → List ℕ → ℕ → Talk)
-    (kept : HostState) (printed : Printed) → Conveys link old new (Answered bytes reply ∷ []) → RepresentsHost kept whole → IsRead reply printed
-    → ContinuesWith link old new (in_plain whole bytes rest) rest kept printed
+    (kept : HostState) (printed : Printed) → Conveys link old new (Answered bytes reply ∷ []) → RepresentsHost kept whole → IsReadInPlain reply printed
+    → ContinuesWith link old new (send_in_plain whole bytes rest) rest kept printed
 plain_continues link old new whole bytes reply rest kept (Reply body status) conveyed represents is =
     let e : nat_lt (length reply) 2 ≡ false = le-ltb (length reply) 2 is.0 in
     let read : reading whole reply rest ≡ rest whole (body_in reply) (status_in reply) = rw (e) refl in
@@ -56,7 +56,7 @@ continues_plays link old new talk kept (Err failed) x = x
 
 -- SELECT, by what it was answered
 pub select_played : {L : Type 0} (link : CardLink L) (old new : L) (talk : Talk) (kept kept' : HostState) (printed : Printed)
-    → ContinuesWith link old new talk selected kept printed
+    → ContinuesWith link old new talk after_select kept printed
     → MatchOption (status_printed printed) (kept' ≡ kept)
     (λ status. (whole : Host) → RepresentsHost kept whole → RepresentsHost kept' (if has_selected status.0 then with_own None whole else whole))
     → IsPlayed link old new talk printed kept'

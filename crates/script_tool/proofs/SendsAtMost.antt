@@ -4,14 +4,14 @@ use Rattle.apdu_core.specs.Apdu.{Apdu}
 use Rattle.scp03_card.specs.Offer.{Offer, card_cryptogram}
 use Rattle.scp03_card.specs.Session.{Session}
 use Rattle.scp03_host.specs.Begin.{answer_to, cryptogram_in}
-use Rattle.scp03_host.specs.Wrapped.{having_sent, room_for, wrapped}
-use Rattle.script_lines.specs.Channel.{number_of}
-use Rattle.script_lines.specs.Command.{spelled}
+use Rattle.scp03_host.specs.Wrapped.{having_sent, room_for, wrapped_command}
+use Rattle.script_lines.specs.Channel.{channel_number}
+use Rattle.script_lines.specs.Command.{command_bytes}
 use Rattle.script_tool.specs.Count.{command_count}
 use Rattle.script_tool.specs.Host.{Host, own_session, with_own}
-use Rattle.script_tool.specs.InPlain.{body_in, in_plain}
-use Rattle.script_tool.specs.InSession.{Rest, after_reply, awaiting, protecting, printing, sending, spoiled, with_some}
-use Rattle.script_tool.specs.Opening.{authenticated, authenticating, counter_in, offer_under, offered_by, playing_open, updated, updating, with_field}
+use Rattle.script_tool.specs.InPlain.{body_in, send_in_plain}
+use Rattle.script_tool.specs.InSession.{Rest, after_reply, awaiting, protecting, printing, sending, with_bad_mac, with_some}
+use Rattle.script_tool.specs.Opening.{after_authenticate, after_update, authenticating, counter_in, offer_under, offered_by, playing_open, updating, with_field}
 use Rattle.script_tool.specs.Printed.{Cryptogram, Reply, Said}
 use Rattle.script_tool.specs.Talk.{Answered, Ends, Event, Goes, Plain, Refused, Reset, Resets, Sends, Taken, Takes, Talk}
 use Rattle.script_lines.specs.declared.opening.Opening.{Opening}
@@ -49,7 +49,7 @@ most_if n false one other x y = y
 abbrev pub RestSends : Rest → ℕ → Type 0
 RestSends rest n = (host : Host) (body : List ℕ) (status : ℕ) → SendsAtMost (rest host body status) n
 
-pub most_plain : (m n : ℕ) → m < n → (host : Host) (bytes : List ℕ) (rest : Rest) → RestSends rest m → SendsAtMost (in_plain host bytes rest) n
+pub most_plain : (m n : ℕ) → m < n → (host : Host) (bytes : List ℕ) (rest : Rest) → RestSends rest m → SendsAtMost (send_in_plain host bytes rest) n
 most_plain m n less host bytes rest most = (
   m,
   less,
@@ -71,7 +71,7 @@ pub most_protecting : (m n : ℕ) → m < n → (host : Host) (session : Session
     → SendsAtMost (protecting host session bad command rest) n
 most_protecting m n less host session bad command rest most =
     let sent : Session = having_sent session command in
-    let bytes : List ℕ = spoiled bad (spelled (wrapped session command (number_of host.channel))) in
+    let bytes : List ℕ = with_bad_mac bad (command_bytes (wrapped_command session command (channel_number host.channel))) in
     most_if n (nat_lt (room_for session.level) (length command.body)) (Ends (Said TooLong) host) (awaiting host sent bytes rest) tt
     (most_awaiting m n less host sent bytes rest most)
 
@@ -84,7 +84,7 @@ most_sending bad host command =
 -- two to open a session
 most_authenticating : (host : Host) (o : Opening) (offer : Offer) (counter : List ℕ) → SendsAtMost (authenticating host o offer counter) 1
 most_authenticating host o offer counter =
-    most_plain 0 1 (omega arith) host (spelled (answer_to offer o.level (number_of host.channel))) (authenticated o offer counter) (λ after body status. tt)
+    most_plain 0 1 (omega arith) host (command_bytes (answer_to offer o.level (channel_number host.channel))) (after_authenticate o offer counter) (λ after body status. tt)
 
 most_offered : (host : Host) (o : Opening) (field : List ℕ) → SendsAtMost (offered_by host o field) 1
 most_offered host o field =
@@ -92,11 +92,11 @@ most_offered host o field =
     most_if 1 (bytes_eq (cryptogram_in field) (card_cryptogram offer)) (authenticating host o offer (counter_in field)) (Ends (Cryptogram (counter_in field)) host)
     (most_authenticating host o offer (counter_in field)) tt
 
-most_updated : (o : Opening) (host : Host) (field : List ℕ) (status : ℕ) → SendsAtMost (updated o host field status) 1
+most_updated : (o : Opening) (host : Host) (field : List ℕ) (status : ℕ) → SendsAtMost (after_update o host field status) 1
 most_updated o host field status =
     let fresh : Host = with_own None host in
     most_if 1 (status == 0x9000) (with_field fresh o field) (Ends (Reply [] status) host)
     (most_if 1 (length field == 32) (offered_by fresh o field) (Ends (Said Short) fresh) (most_offered fresh o field) tt) tt
 
 pub most_open : (host : Host) (o : Opening) → SendsAtMost (playing_open host o) 2
-most_open host o = most_plain 1 2 (omega arith) host (spelled (updating (number_of host.channel) o)) (updated o) (most_updated o)
+most_open host o = most_plain 1 2 (omega arith) host (command_bytes (updating (channel_number host.channel) o)) (after_update o) (most_updated o)

@@ -18,8 +18,8 @@ pub record Sessions : Type 0 where
   pub second : Option Session
   pub third : Option Session
 
-abbrev pub no_sessions : Sessions
-no_sessions = record { basic = None; first = None; second = None; third = None }
+abbrev pub no_host_sessions : Sessions
+no_host_sessions = record { basic = None; first = None; second = None; third = None }
 
 abbrev pub session_of : Channel → Sessions → Option Session
 session_of Basic all = all.basic
@@ -48,7 +48,7 @@ abbrev pub factory_trio : Trio 16
 factory_trio = record { enc = FACTORY_KEY; mac = FACTORY_KEY; dek = FACTORY_KEY }
 
 abbrev pub first_host : Host
-first_host = record { channel = Basic; keys = Aes128 factory_trio; tokens = Absent; sessions = no_sessions; last = None }
+first_host = record { channel = Basic; keys = Aes128 factory_trio; tokens = Absent; sessions = no_host_sessions; last = None }
 
 -- with other sessions
 abbrev pub with_sessions : Sessions → Host → Host
@@ -65,15 +65,15 @@ with_own session host = with_sessions (with_session host.channel session host.se
 
 -- after power off and on: the keys, the tokens and the status stay
 abbrev pub after_reset : Host → Host
-after_reset host = record { channel = Basic; keys = host.keys; tokens = host.tokens; sessions = no_sessions; last = host.last }
+after_reset host = record { channel = Basic; keys = host.keys; tokens = host.tokens; sessions = no_host_sessions; last = host.last }
 
 -- with another channel, other keys, other tokens, or another status
-abbrev pub with_channel : Channel → Host → Host
-with_channel channel host =
+abbrev pub host_on_channel : Channel → Host → Host
+host_on_channel channel host =
     record { channel = channel; keys = host.keys; tokens = host.tokens; sessions = host.sessions; last = host.last }
 
-abbrev pub with_keys : OfSize (Trio 16) (Trio 24) (Trio 32) → Host → Host
-with_keys keys host = record { channel = host.channel; keys = keys; tokens = host.tokens; sessions = host.sessions; last = host.last }
+abbrev pub with_host_keys : OfSize (Trio 16) (Trio 24) (Trio 32) → Host → Host
+with_host_keys keys host = record { channel = host.channel; keys = keys; tokens = host.tokens; sessions = host.sessions; last = host.last }
 
 abbrev pub with_tokens : Tokens → Host → Host
 with_tokens tokens host =

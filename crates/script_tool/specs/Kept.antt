@@ -8,7 +8,7 @@ use Rattle.script_lines.specs.declared.channel.Channel.TheVariants.{Basic, First
 use Rattle.script_tool.specs.Host.{Host, Sessions}
 use Rattle.script_tool.specs.InSession.{refusal_word}
 use Rattle.script_tool.specs.Printed.{Printed, Nothing, Reply, Opened, Cryptogram, Said, Differs}
-use Rattle.script_tool.specs.Talk.{IsTaken, Refused}
+use Rattle.script_tool.specs.Talk.{IsReplyTaken, Refused}
 use Rattle.script_tool.specs.declared.channel_sessions.ChannelSessions.{ChannelSessions}
 use Rattle.script_tool.specs.declared.host_state.HostState.{HostState}
 use Rattle.script_tool.specs.declared.word.Word.{Word}
@@ -40,7 +40,7 @@ MayBeSession (Some kept) None = ⊥
 
 -- the word is said of a reply that no card sends in the session
 abbrev pub RefusesAs : Session → List ℕ → Word → Type 0
-RefusesAs session reply word = (why : ReplyRefusal) × (word ≡ refusal_word why) × IsTaken session reply (Refused why)
+RefusesAs session reply word = (why : ReplyRefusal) × (word ≡ refusal_word why) × IsReplyTaken session reply (Refused why)
 
 pub record AreSessions (kept : ChannelSessions) (sessions : Sessions) : Type 0 where
   pub basic : MayBeSession kept.basic sessions.basic

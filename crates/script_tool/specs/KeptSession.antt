@@ -3,7 +3,7 @@ use Rattle.scp03_card.specs.Kept.{KeptSession}
 use Rattle.script_lines.specs.declared.keys.OfSize.{OfSize}
 use Rattle.script_lines.specs.declared.keys.OfSize.TheVariants.{Aes128, Aes192, Aes256}
 
-abbrev pub kept_of : OfSize KeptSession KeptSession KeptSession → KeptSession
-kept_of (Aes128 session) = session
-kept_of (Aes192 session) = session
-kept_of (Aes256 session) = session
+abbrev pub session_inside : OfSize KeptSession KeptSession KeptSession → KeptSession
+session_inside (Aes128 session) = session
+session_inside (Aes192 session) = session
+session_inside (Aes256 session) = session

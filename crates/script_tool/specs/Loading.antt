@@ -2,8 +2,8 @@
 use Rattle.std.specs.Prelude.{ℕ, zero, suc, ◌+◌, ◌-◌, ◌/◌, List, length, take, drop, false, ◌==◌, if◌then◌else◌}
 use Rattle.scp03_host.specs.Wrapped.{room_for}
 use Rattle.script_tool.specs.Host.{Host}
-use Rattle.script_tool.specs.InSession.{in_session, protecting}
-use Rattle.script_lines.specs.Load.{beginning_load, block_element, content_bytes, loading}
+use Rattle.script_tool.specs.InSession.{for_session, protecting}
+use Rattle.script_lines.specs.Load.{beginning_load, block_command, block_element, content_bytes}
 use Rattle.script_tool.specs.Printed.{Reply}
 use Rattle.script_tool.specs.Talk.{Ends, Talk}
 use Rattle.script_lines.specs.declared.load_file.LoadFile.{LoadFile}
@@ -12,8 +12,8 @@ use Rattle.script_lines.specs.declared.load_file.LoadFile.{LoadFile}
 abbrev pub loading_blocks : (size left number : ℕ) → List ℕ → Host → List ℕ → ℕ → Talk
 loading_blocks size zero number bytes host body status = Ends (Reply body status) host
 loading_blocks size (suc left) number bytes host body status =
-    if status == 0x9000 then in_session host
-    (λ session. protecting host session false (loading (left == 0) number (take size bytes)) (loading_blocks size left (number + 1) (drop size bytes)))
+    if status == 0x9000 then for_session host
+    (λ session. protecting host session false (block_command (left == 0) number (take size bytes)) (loading_blocks size left (number + 1) (drop size bytes)))
     else Ends (Reply body status) host
 
 -- how many blocks of a size the bytes make
@@ -28,5 +28,5 @@ loading_all size file =
 
 -- `load`: INSTALL for load and all blocks, as long as the session lets a data field be
 abbrev pub playing_load : Host → LoadFile → Talk
-playing_load host file = in_session host
+playing_load host file = for_session host
     (λ session. protecting host session false (beginning_load host.tokens file) (loading_all (room_for session.level) file))

@@ -2,12 +2,12 @@
 use Rattle.std.specs.Prelude.{ℕ, ◌+◌, List, [], length, drop, None, Some, ◌==◌, bytes_eq, if◌then◌else◌}
 use Rattle.apdu_core.specs.Apdu.{Apdu}
 use Rattle.scp03_card.specs.Offer.{Offer, card_cryptogram}
-use Rattle.scp03_card.specs.Session.{answered}
+use Rattle.scp03_card.specs.Session.{session_from}
 use Rattle.scp03_host.specs.Begin.{answer_to, cryptogram_in, offer_from_reply}
-use Rattle.script_lines.specs.Channel.{number_of}
-use Rattle.script_lines.specs.Command.{spelled}
+use Rattle.script_lines.specs.Channel.{channel_number}
+use Rattle.script_lines.specs.Command.{command_bytes}
 use Rattle.script_tool.specs.Host.{Host, with_own}
-use Rattle.script_tool.specs.InPlain.{in_plain}
+use Rattle.script_tool.specs.InPlain.{send_in_plain}
 use Rattle.script_tool.specs.Printed.{Cryptogram, Opened, Reply, Said}
 use Rattle.script_tool.specs.Talk.{Ends, Talk}
 use Rattle.script_lines.specs.declared.keys.OfSize.{OfSize}
@@ -31,13 +31,13 @@ abbrev pub counter_in : List ℕ → List ℕ
 counter_in field = drop 29 field
 
 -- EXTERNAL AUTHENTICATE: 9000 puts the session
-abbrev pub authenticated : the_type.Opening → Offer → List ℕ → Host → List ℕ → ℕ → Talk
-authenticated o offer counter host body status =
-    Ends (Opened counter status) (if status == 0x9000 then with_own (Some (answered offer o.level)) host else host)
+abbrev pub after_authenticate : the_type.Opening → Offer → List ℕ → Host → List ℕ → ℕ → Talk
+after_authenticate o offer counter host body status =
+    Ends (Opened counter status) (if status == 0x9000 then with_own (Some (session_from offer o.level)) host else host)
 
 abbrev pub authenticating : Host → the_type.Opening → Offer → List ℕ → Talk
 authenticating host o offer counter =
-    in_plain host (spelled (answer_to offer o.level (number_of host.channel))) (authenticated o offer counter)
+    send_in_plain host (command_bytes (answer_to offer o.level (channel_number host.channel))) (after_authenticate o offer counter)
 
 -- the host has the data field of the reply to INITIALIZE UPDATE
 abbrev pub offered_by : Host → the_type.Opening → List ℕ → Talk
@@ -50,9 +50,9 @@ abbrev pub with_field : Host → the_type.Opening → List ℕ → Talk
 with_field host o field = if length field == 32 then offered_by host o field else Ends (Said Short) host
 
 -- a card that answers INITIALIZE UPDATE has ended the session of the channel
-abbrev pub updated : the_type.Opening → Host → List ℕ → ℕ → Talk
-updated o host field status = if status == 0x9000 then with_field (with_own None host) o field else Ends (Reply [] status) host
+abbrev pub after_update : the_type.Opening → Host → List ℕ → ℕ → Talk
+after_update o host field status = if status == 0x9000 then with_field (with_own None host) o field else Ends (Reply [] status) host
 
 -- `open`
 abbrev pub playing_open : Host → the_type.Opening → Talk
-playing_open host o = in_plain host (spelled (updating (number_of host.channel) o)) (updated o)
+playing_open host o = send_in_plain host (command_bytes (updating (channel_number host.channel) o)) (after_update o)

@@ -3,9 +3,9 @@ use Rattle.std.specs.Prelude.{ℕ, ◌≤◌, length, Option, None, Some, false,
 use Rattle.apdu_core.specs.declared.reply.Status.{Status}
 use Rattle.script_lines.specs.Delete.{deleting}
 use Rattle.script_lines.specs.Extradite.{extraditing}
-use Rattle.script_tool.specs.Host.{Host, after_reset, with_channel, with_keys, with_last, with_tokens}
+use Rattle.script_tool.specs.Host.{Host, after_reset, host_on_channel, with_host_keys, with_last, with_tokens}
 use Rattle.script_tool.specs.InPlain.{playing_raw, playing_select}
-use Rattle.script_tool.specs.InSession.{in_session, printing, protecting, sending}
+use Rattle.script_tool.specs.InSession.{for_session, printing, protecting, sending}
 use Rattle.script_lines.specs.Install.{installing}
 use Rattle.script_lines.specs.Life.{changing_life}
 use Rattle.script_lines.specs.Listing.{listing_command}
@@ -15,7 +15,7 @@ use Rattle.script_tool.specs.Opening.{playing_open}
 use Rattle.script_tool.specs.Printed.{Differs, Nothing, Printed}
 use Rattle.script_lines.specs.PutKey.{putting_keys}
 use Rattle.script_lines.specs.Selectable.{making_selectable}
-use Rattle.script_lines.specs.Send.{plain_of}
+use Rattle.script_lines.specs.Send.{command_of_plain}
 use Rattle.script_lines.specs.Store.{storing}
 use Rattle.script_tool.specs.Talk.{Ends, Resets, Talk}
 use Rattle.script_lines.specs.declared.control.Control as the_control
@@ -28,14 +28,14 @@ use Rattle.script_lines.specs.declared.put_key.Putting.{Putting}
 
 -- `putkey`: the keys are enciphered under the Key-DEK of the session
 abbrev pub playing_put_key : Host → Putting → Talk
-playing_put_key host p = in_session host (λ session. protecting host session false (putting_keys session.offer.dek p) printing)
+playing_put_key host p = for_session host (λ session. protecting host session false (putting_keys session.offer.dek p) printing)
 
 abbrev pub playing_exchange : Host → the_exchange.Exchange → Talk
 playing_exchange host (Select aid) = playing_select host aid
 playing_exchange host (Raw bytes) = playing_raw host bytes.items
 playing_exchange host (Open opening) = playing_open host opening
-playing_exchange host (Send command) = sending false host (plain_of command)
-playing_exchange host (Bad command) = sending true host (plain_of command)
+playing_exchange host (Send command) = sending false host (command_of_plain command)
+playing_exchange host (Bad command) = sending true host (command_of_plain command)
 playing_exchange host (Install installation) = sending false host (installing host.tokens installation)
 playing_exchange host (Selectable aid) = sending false host (making_selectable host.tokens aid)
 playing_exchange host (Extradite extradition) = sending false host (extraditing host.tokens extradition)
@@ -59,8 +59,8 @@ wanting (Some got) want = if want == got.0 then Nothing else Differs want (Some 
 
 abbrev pub playing_control : Host → the_control.Control → Talk
 playing_control host Reset = Resets (Ends Nothing (after_reset host))
-playing_control host (Channel channel) = Ends Nothing (with_channel channel host)
-playing_control host (Keys keys) = Ends Nothing (with_keys keys host)
+playing_control host (Channel channel) = Ends Nothing (host_on_channel channel host)
+playing_control host (Keys keys) = Ends Nothing (with_host_keys keys host)
 playing_control host (Tokens tokens) = Ends Nothing (with_tokens tokens host)
 playing_control host (Want status) = Ends (wanting host.last status.0) host
 

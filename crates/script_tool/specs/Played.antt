@@ -50,7 +50,7 @@ Continues link old new talk rest kept (Ok printout) = ContinuesWith link old new
 Continues link old new talk rest kept (Err failed) = IsBroken link old new talk
 
 -- a reply is read in plain
-abbrev pub IsRead : List ℕ → Printed → Type 0
-IsRead reply (Reply body status) = (2 ≤ length reply) × (body ≡ body_in reply) × (status ≡ status_in reply)
-IsRead reply (Said Short) = length reply < 2
-IsRead reply _ = ⊥
+abbrev pub IsReadInPlain : List ℕ → Printed → Type 0
+IsReadInPlain reply (Reply body status) = (2 ≤ length reply) × (body ≡ body_in reply) × (status ≡ status_in reply)
+IsReadInPlain reply (Said Short) = length reply < 2
+IsReadInPlain reply _ = ⊥

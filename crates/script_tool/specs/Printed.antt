@@ -54,10 +54,10 @@ status_printed _ = None
 
 -- What kind of answer a line prints.
 
-abbrev pub kind_of : Printed → the_played.Played
-kind_of Nothing = Quiet
-kind_of (Reply body status) = Answer (record { 0 = status })
-kind_of (Opened counter status) = Answer (record { 0 = status })
-kind_of (Cryptogram counter) = Note
-kind_of (Said word) = Note
-kind_of (Differs want got) = WantDiffers
+abbrev pub kind_played : Printed → the_played.Played
+kind_played Nothing = Quiet
+kind_played (Reply body status) = Answer (record { 0 = status })
+kind_played (Opened counter status) = Answer (record { 0 = status })
+kind_played (Cryptogram counter) = Note
+kind_played (Said word) = Note
+kind_played (Differs want got) = WantDiffers

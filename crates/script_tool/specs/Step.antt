@@ -2,7 +2,7 @@
 use Rattle.std.specs.Prelude.{◌≡◌, ℕ, List, Result, Ok, Err}
 use Rattle.script_tool.specs.Host.{Host}
 use Rattle.script_tool.specs.Kept.{RepresentsHost}
-use Rattle.script_tool.specs.Printed.{kind_of, Printed, printed_text, status_printed}
+use Rattle.script_tool.specs.Printed.{kind_played, Printed, printed_text, status_printed}
 use Rattle.script_tool.specs.Play.{playing, remembering}
 use Rattle.script_tool.specs.Played.{IsBroken, Leads}
 use Rattle.script_lines.specs.Quiet.{is_quiet}
@@ -21,7 +21,7 @@ pub record HasPlayed {L : Type 0} (link : CardLink L) (old new : L) (host : Host
   pub leads : Leads link old new (playing host said) (Ends printed after)
   pub stands : RepresentsHost kept (remembering (status_printed printed) after)
   pub text_is : text ≡ printed_text (is_quiet said) printed
-  pub kind : played ≡ kind_of printed
+  pub kind : played ≡ kind_played printed
 
 -- The host has played the line, or the link failed in a command of it.
 abbrev pub StepPlays : {L : Type 0} → CardLink L → L → L → Host → ScriptLine → HostState → List ℕ → Result the_played.Played StepStop → Type 0

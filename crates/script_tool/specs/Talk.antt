@@ -19,9 +19,9 @@ IsWhy session reply Mac = (IsTooShort session reply → ⊥) × (HasRightMac ses
 IsWhy session reply Padding = (IsTooShort session reply → ⊥) × HasRightMac session reply
 
 -- A reply is taken for what a card sends, or refused where no card sends it. The session's last message is that of the command.
-abbrev pub IsTaken : Session → List ℕ → Taken → Type 0
-IsTaken session reply (Plain body status) = Unwraps session reply body status
-IsTaken session reply (Refused why) = ((body : List ℕ) (status : ℕ) → Unwraps session reply body status → ⊥) × IsWhy session reply why
+abbrev pub IsReplyTaken : Session → List ℕ → Taken → Type 0
+IsReplyTaken session reply (Plain body status) = Unwraps session reply body status
+IsReplyTaken session reply (Refused why) = ((body : List ℕ) (status : ℕ) → Unwraps session reply body status → ⊥) × IsWhy session reply why
 
 -- What a host does: it has printed, and is ready for the next line; or it resets the card and goes on; or it sends bytes and goes on
 -- by the reply; or it takes a reply for what it is and goes on by that.
@@ -47,4 +47,4 @@ Goes (Sends bytes rest) [] left = left ≡ Sends bytes rest
 Goes (Sends bytes rest) (Reset ∷ events) left = ⊥
 Goes (Sends bytes rest) (Answered command reply ∷ events) left = (command ≡ bytes) × Goes (rest reply) events left
 Goes (Takes session reply rest) events left =
-    ((events ≡ []) × (left ≡ Takes session reply rest)) ⊎ ((taken : Taken) × IsTaken session reply taken × Goes (rest taken) events left)
+    ((events ≡ []) × (left ≡ Takes session reply rest)) ⊎ ((taken : Taken) × IsReplyTaken session reply taken × Goes (rest taken) events left)

@@ -1,7 +1,7 @@
 //! A session of the host, under keys of any length (GlobalPlatform Amendment D, 6.2).
 
 ghost use Rattle.std.specs.Prelude.{◌≡◌, ◌↔◌, ◌<◌, ◌≤◌, ℕ, List, length, IfOk, IsErr, OnOk, OnErr};
-ghost use Rattle.script_tool.specs.Prelude.{HasRightMac, IsTooShort, RepresentsSession, Short, Unwraps, apdu_of, having_sent, plain_of, putting_keys, room_for, wrapped};
+ghost use Rattle.script_tool.specs.Prelude.{HasRightMac, IsTooShort, RepresentsSession, Short, Unwraps, apdu_of, command_of_plain, having_sent, putting_keys, room_for, wrapped_command};
 ghost use Rattle.scp03_card.specs.Session as model;
 
 use aes_block::{Aes128, Aes192, Aes256};
@@ -22,11 +22,11 @@ pub struct AesSession {
 // Contracts see the session, and not the kind.
 impl Model for AesSession {
     ghost use Rattle.scp03_card.specs.Kept.{KeptSession};
-    ghost use Rattle.script_tool.specs.KeptSession.{kept_of};
+    ghost use Rattle.script_tool.specs.KeptSession.{session_inside};
 
     ghost Value = { KeptSession };
 
-    ghost view = { λ s. kept_of s.kind };
+    ghost view = { λ s. session_inside s.kind };
 }
 
 impl AesSession {
@@ -63,7 +63,7 @@ impl AesSession {
     ) -> Result<(), TooLong>
         requires { channel < 4 }
         ensures sent { (session : model.Session) → RepresentsSession self.old session
-            → OnOk result (Short (wrapped session (apdu_of plain.now) channel) out.new.items) }
+            → OnOk result (Short (wrapped_command session (apdu_of plain.now) channel) out.new.items) }
         ensures accepted { (session : model.Session) → RepresentsSession self.old session → OnOk result (RepresentsSession self.new (having_sent session (apdu_of plain.now))) }
         ensures too_long { (session : model.Session) → RepresentsSession self.old session
             → IsErr result ↔ (room_for session.level < length plain.now.body.now) }
@@ -103,7 +103,7 @@ impl AesSession {
 
     /// PUT KEY of these keys, enciphered under the session's Key-DEK.
     pub fn put_key(&self, putting: &Putting) -> Plain
-        ensures { (session : model.Session) → RepresentsSession self.now session → plain_of result ≡ putting_keys session.offer.dek putting.now }
+        ensures { (session : model.Session) → RepresentsSession self.now session → command_of_plain result ≡ putting_keys session.offer.dek putting.now }
     {
         match &self.kind {
             OfSize::Aes128(session) => putting.command(session.dek()),

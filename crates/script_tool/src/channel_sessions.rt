@@ -1,7 +1,7 @@
 //! The sessions of a host (GlobalPlatform Amendment D, chapter 5).
 
 ghost use Rattle.std.specs.Prelude.{◌≡◌, ◌↔◌, ◌<◌, ◌≤◌, None, Some, length, IfErr, IfOk, IsErr, OnErr, OnOk};
-ghost use Rattle.script_tool.specs.Prelude.{MayBeSession, RefusesAs, Session, Short, Unwraps, apdu_of, having_sent, kept_on, no_kept, number_of, room_for, with_kept, wrapped};
+ghost use Rattle.script_tool.specs.Prelude.{MayBeSession, RefusesAs, Session, Short, Unwraps, apdu_of, channel_number, having_sent, kept_on, no_kept, room_for, with_kept, wrapped_command};
 ghost use Rattle.script_tool.specs.declared.word.Word.TheVariants.{NoSession, TooLong as TooLongWord};
 
 use crate::aes_session::AesSession;
@@ -30,7 +30,7 @@ fn wrap_in(
     requires { channel < 4 }
     ensures none { kept.old ≡ None → result ≡ Err NoSession }
     ensures sent { (session : Session) → MayBeSession kept.old (Some session)
-        → OnOk result (Short (wrapped session (apdu_of plain.now) channel) out.new.items) }
+        → OnOk result (Short (wrapped_command session (apdu_of plain.now) channel) out.new.items) }
     ensures accepted { (session : Session) → MayBeSession kept.old (Some session)
         → OnOk result (MayBeSession kept.new (Some (having_sent session (apdu_of plain.now)))) }
     ensures too_long { (session : Session) → MayBeSession kept.old (Some session)
@@ -117,7 +117,7 @@ impl ChannelSessions {
     ) -> Result<(), Word>
         ensures none { kept_on channel self.old ≡ None → result ≡ Err NoSession }
         ensures sent { (session : Session) → MayBeSession (kept_on channel self.old) (Some session)
-            → OnOk result (Short (wrapped session (apdu_of plain.now) (number_of channel)) out.new.items) }
+            → OnOk result (Short (wrapped_command session (apdu_of plain.now) (channel_number channel)) out.new.items) }
         ensures accepted { (session : Session) → MayBeSession (kept_on channel self.old) (Some session)
             → OnOk result (MayBeSession (kept_on channel self.new) (Some (having_sent session (apdu_of plain.now)))) }
         ensures too_long { (session : Session) → MayBeSession (kept_on channel self.old) (Some session)

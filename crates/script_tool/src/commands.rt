@@ -1,7 +1,7 @@
 //! The commands that lines send in the session of the channel (GlobalPlatform Amendment D, 6.2).
 
 ghost use Rattle.std.specs.Prelude.{◌≡◌, true, false, OnOk};
-ghost use Rattle.script_tool.specs.Prelude.{Apdu, HasCause, Host, Plays, RepresentsHost, changing_life, deleting, extraditing, installing, listing_command, making_selectable, plain_of, playing_put_key, sending, storing};
+ghost use Rattle.script_tool.specs.Prelude.{Apdu, HasCause, Host, Plays, RepresentsHost, changing_life, command_of_plain, deleting, extraditing, installing, listing_command, making_selectable, playing_put_key, sending, storing};
 
 use crate::host_state::HostState;
 use crate::in_session::send;
@@ -22,7 +22,7 @@ pub trait ToCommand {
     ghost apdu: { Tokens → Self → Apdu };
 
     fn to_command(&self, tokens: &Tokens) -> Plain
-        ensures { plain_of result ≡ apdu tokens.now self.now };
+        ensures { command_of_plain result ≡ apdu tokens.now self.now };
 }
 
 impl ToCommand for Installation {
@@ -96,7 +96,7 @@ pub fn send_one<L: CardLink>(
     command: &Plain,
 ) -> Result<Printout, LinkFailed>
     requires up { L.up link.old ≡ true }
-    ensures played { (whole : Host) (wanted : Apdu) → RepresentsHost host.old whole → plain_of command.now ≡ wanted
+    ensures played { (whole : Host) (wanted : Apdu) → RepresentsHost host.old whole → command_of_plain command.now ≡ wanted
         → Plays L.CardLink link.old link.new (sending bad whole wanted) host.new result }
     ensures up { OnOk result (L.up link.new ≡ true) }
     ensures cause { HasCause (L.faults link.old) (L.faults link.new) result }

@@ -1,7 +1,7 @@
 //! Commands that are sent as they are (ISO/IEC 7816-4:2013, chapter 5).
 
 ghost use Rattle.std.specs.Prelude.{◌≡◌, ◌≤◌, ℕ, List, true, length, OnOk, None, MatchOption, if◌then◌else◌};
-ghost use Rattle.script_tool.specs.Prelude.{Continues, HasCause, Host, IsRead, Plays, RepresentsHost, Talk, has_selected, in_plain, number_of, playing_raw, playing_select, printed_of, selecting, spelled, status_printed, with_own};
+ghost use Rattle.script_tool.specs.Prelude.{Continues, HasCause, Host, IsReadInPlain, Plays, RepresentsHost, Talk, channel_number, command_bytes, has_selected, playing_raw, playing_select, printed_of, selecting, send_in_plain, status_printed, with_own};
 ghost use Rattle.script_tool.specs.declared.host_state.HostState.{HostState};
 
 use crate::host_state::HostState;
@@ -20,7 +20,7 @@ const LOCKED: Status = Status(0x6283);
 // What a reply says in plain.
 fn plain_reply(reply: &[u8]) -> Printout
     requires { length reply.now ≤ 258 }
-    ensures { IsRead reply.now (printed_of result) }
+    ensures { IsReadInPlain reply.now (printed_of result) }
 {
     let Ok(Reply { body, status }) = Reply::read(reply) else {
         return Printout::Said(Word::Short);
@@ -34,7 +34,7 @@ fn plain_reply(reply: &[u8]) -> Printout
 pub fn send_plain<L: CardLink>(wire: &mut Wire, link: &mut L) -> Result<Printout, LinkFailed>
     requires up { L.up link.old ≡ true }
     ensures goes_on { (host : HostState) (whole : Host) (rest : Host → List ℕ → ℕ → Talk) → RepresentsHost host whole
-        → Continues L.CardLink link.old link.new (in_plain whole wire.old.sent.items rest) rest host result }
+        → Continues L.CardLink link.old link.new (send_in_plain whole wire.old.sent.items rest) rest host result }
     ensures up { OnOk result (L.up link.new ≡ true) }
     ensures cause { HasCause (L.faults link.old) (L.faults link.new) result }
 {
@@ -59,7 +59,7 @@ pub fn raw<L: CardLink>(wire: &mut Wire, link: &mut L, bytes: &[u8]) -> Result<P
 
 // SELECT by AID, or of the Issuer Security Domain.
 fn write_select(channel: Channel, aid: &Option<Aid>, out: &mut ArrayVec<u8, 261>)
-    ensures { out.new.items ≡ spelled (selecting (number_of channel) aid.now) }
+    ensures { out.new.items ≡ command_bytes (selecting (channel_number channel) aid.now) }
 {
     let body = match aid {
         Some(aid) => aid.as_bytes(),

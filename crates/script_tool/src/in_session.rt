@@ -1,7 +1,7 @@
 //! Commands in a session (GlobalPlatform Amendment D, 6.2).
 
 ghost use Rattle.std.specs.Prelude.{◌≡◌, ◌≤◌, Some, true, length, OnOk};
-ghost use Rattle.script_tool.specs.Prelude.{Continues, HasCause, Host, RepresentsHost, Rest, Session, apdu_of, awaiting, in_session, protecting, spoiled, with_own};
+ghost use Rattle.script_tool.specs.Prelude.{Continues, HasCause, Host, RepresentsHost, Rest, Session, apdu_of, awaiting, for_session, protecting, with_bad_mac, with_own};
 
 use crate::host_state::HostState;
 use crate::link::{CardLink, LinkFailed};
@@ -12,7 +12,7 @@ use arrayvec::ArrayVec;
 
 // Turns the lowest bit of the first byte of the C-MAC, which is the last eight bytes, where the command is to be bad.
 fn spoil(bad: bool, command: &mut ArrayVec<u8, 261>)
-    ensures { 8 ≤ length command.old.items → command.new.items ≡ spoiled bad command.old.items }
+    ensures { 8 ≤ length command.old.items → command.new.items ≡ with_bad_mac bad command.old.items }
 {
     if bad && command.len() >= 8 {
         let first = command.len() - 8;
@@ -50,7 +50,7 @@ pub fn send<L: CardLink>(
 ) -> Result<Printout, LinkFailed>
     requires up { L.up link.old ≡ true }
     ensures goes_on { (whole : Host) (rest : Rest) → RepresentsHost host.old whole
-        → Continues L.CardLink link.old link.new (in_session whole (λ kept. protecting whole kept bad (apdu_of command.now) rest)) rest host.new result }
+        → Continues L.CardLink link.old link.new (for_session whole (λ kept. protecting whole kept bad (apdu_of command.now) rest)) rest host.new result }
     ensures up { OnOk result (L.up link.new ≡ true) }
     ensures cause { HasCause (L.faults link.old) (L.faults link.new) result }
 {

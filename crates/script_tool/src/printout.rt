@@ -2,7 +2,7 @@
 
 ghost use Rattle.std.specs.Prelude.{◌≡◌, ◌+◌, ◌*◌, ◌++◌, ◌≤◌, codes, length};
 ghost use Rattle.std.specs.Option.{option_map};
-ghost use Rattle.script_tool.specs.Prelude.{encode_lower, kind_of, may_be_status, printed_of, printed_text, status_digits, status_printed, unless_quiet};
+ghost use Rattle.script_tool.specs.Prelude.{encode_lower, kind_played, may_be_status, printed_of, printed_text, status_digits, status_printed, unless_quiet};
 
 use crate::played::Played;
 use crate::word::Word;
@@ -96,7 +96,7 @@ fn push_difference(want: Status, got: Option<Status>, out: &mut Text)
 impl Printout {
     /// What kind of answer it is.
     pub fn kind(&self) -> Played
-        ensures { result ≡ kind_of (printed_of self.now) }
+        ensures { result ≡ kind_played (printed_of self.now) }
     {
         match self {
             Printout::Nothing => Played::Quiet,

@@ -1,7 +1,7 @@
 //! Sessions that are opened (GlobalPlatform Amendment D, 7.1.1, 7.1.2).
 
 ghost use Rattle.std.specs.Prelude.{◌≡◌, true, length, OnOk};
-ghost use Rattle.script_tool.specs.Prelude.{HasCause, Host, Offer, Plays, RepresentsHost, RepresentsSession, Short, answered, authenticated, in_plain, number_of, playing_open, updating, with_field};
+ghost use Rattle.script_tool.specs.Prelude.{HasCause, Host, Offer, Plays, RepresentsHost, RepresentsSession, Short, after_authenticate, channel_number, playing_open, send_in_plain, session_from, updating, with_field};
 ghost use Rattle.script_lines.specs.declared.opening.Opening.{Opening};
 ghost use Rattle.script_tool.specs.Opening as standard;
 
@@ -46,7 +46,7 @@ pub fn open<L: CardLink>(
 
 // Replaces what `out` holds by INITIALIZE UPDATE.
 fn write_update(channel: Channel, opening: &Opening, out: &mut ArrayVec<u8, 261>)
-    ensures { Short (updating (number_of channel) opening.now) out.new.items }
+    ensures { Short (updating (channel_number channel) opening.now) out.new.items }
 {
     let command = Command {
         class: 0x80 + channel.number(),
@@ -100,8 +100,8 @@ fn authenticate<L: CardLink>(
     counter: [u8; 3],
 ) -> Result<Printout, LinkFailed>
     requires up { L.up link.old ≡ true }
-    ensures played { (whole : Host) (o : Opening) (offer : Offer) → RepresentsHost host.old whole → RepresentsSession session (answered offer o.level)
-        → Plays L.CardLink link.old link.new (in_plain whole wire.old.sent.items (authenticated o offer counter)) host.new result }
+    ensures played { (whole : Host) (o : Opening) (offer : Offer) → RepresentsHost host.old whole → RepresentsSession session (session_from offer o.level)
+        → Plays L.CardLink link.old link.new (send_in_plain whole wire.old.sent.items (after_authenticate o offer counter)) host.new result }
     ensures up { OnOk result (L.up link.new ≡ true) }
     ensures cause { HasCause (L.faults link.old) (L.faults link.new) result }
 {

@@ -1,7 +1,7 @@
 //! How a session begins, under keys of any length (GlobalPlatform Amendment D, 7.1.1, 7.1.2).
 
 ghost use Rattle.std.specs.Prelude.{◌≡◌, ◌≢◌, ◌↔◌, ◌<◌, length, IfOk, OnOk, OnErr};
-ghost use Rattle.script_tool.specs.Prelude.{IsOfCard, RepresentsSession, Short, answer_to, answered, offer_from_reply, offer_under};
+ghost use Rattle.script_tool.specs.Prelude.{RepresentsSession, Short, ShowsKeys, answer_to, offer_from_reply, offer_under, session_from};
 
 use crate::aes_session::AesSession;
 use aes_block::BlockKey;
@@ -21,11 +21,11 @@ impl AesSession {
         out: &mut ArrayVec<u8, 261>,
     ) -> Result<AesSession, BeginRefusal>
         requires { channel < 4 }
-        ensures session { IfOk result (λ kept. RepresentsSession kept (answered (offer_under keys.now opening.now.challenge reply.now) opening.now.level)) }
+        ensures session { IfOk result (λ kept. RepresentsSession kept (session_from (offer_under keys.now opening.now.challenge reply.now) opening.now.level)) }
         ensures sent { OnOk result (Short (answer_to (offer_under keys.now opening.now.challenge reply.now) opening.now.level channel) out.new.items) }
         ensures short { (result ≡ Err BeginRefusal.Short) ↔ (length reply.now ≢ 32) }
         ensures cryptogram { (result ≡ Err BeginRefusal.CardCryptogram) ↔ (length reply.now ≡ 32)
-            × (IsOfCard (offer_under keys.now opening.now.challenge reply.now) reply.now → ⊥) }
+            × (ShowsKeys (offer_under keys.now opening.now.challenge reply.now) reply.now → ⊥) }
         ensures unchanged { OnErr result (out.new ≡ out.old) }
     {
         let kind = match keys {
@@ -48,12 +48,12 @@ fn begun<K: BlockKey, const N: usize>(
     requires length { N ≡ K.LEN }
     requires channel { channel < 4 }
     ensures session { IfOk result (λ kept. RepresentsSession kept
-        (answered (offer_from_reply keys.now.enc keys.now.mac keys.now.dek opening.now.challenge reply.now) opening.now.level)) }
+        (session_from (offer_from_reply keys.now.enc keys.now.mac keys.now.dek opening.now.challenge reply.now) opening.now.level)) }
     ensures sent { OnOk result (Short
         (answer_to (offer_from_reply keys.now.enc keys.now.mac keys.now.dek opening.now.challenge reply.now) opening.now.level channel) out.new.items) }
     ensures short { (result ≡ Err BeginRefusal.Short) ↔ (length reply.now ≢ 32) }
     ensures cryptogram { (result ≡ Err BeginRefusal.CardCryptogram) ↔ (length reply.now ≡ 32)
-        × (IsOfCard (offer_from_reply keys.now.enc keys.now.mac keys.now.dek opening.now.challenge reply.now) reply.now → ⊥) }
+        × (ShowsKeys (offer_from_reply keys.now.enc keys.now.mac keys.now.dek opening.now.challenge reply.now) reply.now → ⊥) }
     ensures unchanged { OnErr result (out.new ≡ out.old) }
 {
     let keys = StaticKeys {

@@ -6,7 +6,7 @@ ghost use Rattle.apdu_core.specs.Apdu.{apdu_of};
 ghost use Rattle.arrayvec.specs.ArrayVec.{array_vec_len};
 ghost use Rattle.scp03_card.specs.Kept.{RepresentsSession};
 ghost use Rattle.scp03_card.specs.Opens.{accepting};
-ghost use Rattle.scp03_card.specs.Protected.{protected};
+ghost use Rattle.scp03_card.specs.Protected.{session_reply};
 ghost use Rattle.scp03_card.specs.Session as model;
 
 use aes_block::{Aes128, Aes192, Aes256, BlockKey};
@@ -127,7 +127,7 @@ fn answered<K: BlockKey>(
     requires body { length command.now.body.now ≤ 255 }
     requires field { array_vec_len reply.old ≤ 239 }
     ensures { (s : model.Session) → RepresentsSession session.old s
-        → OnOk result (reply.new.items ≡ protected (accepting s (apdu_of command.now)) reply.old.items status.0) }
+        → OnOk result (reply.new.items ≡ session_reply (accepting s (apdu_of command.now)) reply.old.items status.0) }
 {
     let len = session.open_command(command, plain)?;
     session.close_reply(reply, status);

@@ -1,7 +1,7 @@
 //! Entries and Executable Load Files that come and go on a card. After each change it is committed, and mounted again.
 
 ghost use Rattle.std.specs.Prelude.{◌≡◌, ◌==◌, [], true, IfOk, IsSome, IsTrue};
-ghost use Rattle.card_types.specs.Represents.{IsInOrder, held};
+ghost use Rattle.card_types.specs.Represents.{IsInOrder, thing_in};
 ghost use Rattle.registry.specs.Removing.{IsNoDomain, IsUnloaded};
 
 use bitflags::Flags;
@@ -60,13 +60,13 @@ impl Wants<Entry> for FromFile {
 }
 
 fn has_entry(records: &Records<MemFlash>, slot: u8) -> bool
-    ensures { IsTrue result → IsSome (held records.now.tables.entries.items slot) }
+    ensures { IsTrue result → IsSome (thing_in records.now.tables.entries.items slot) }
 {
     in_slot(&records.tables().entries, slot).is_some()
 }
 
 fn has_file(records: &Records<MemFlash>, slot: u8) -> bool
-    ensures { IsTrue result → IsSome (held records.now.tables.files.items slot) }
+    ensures { IsTrue result → IsSome (thing_in records.now.tables.files.items slot) }
 {
     in_slot(&records.tables().files, slot).is_some()
 }

@@ -1,7 +1,7 @@
 //! The slots of each kind of thing, and their bytes.
 
 ghost use Rattle.std.specs.Prelude.{◌≡◌, ◌⊎◌, ◌+◌, ◌-◌, ◌/◌, ◌^◌, ◌<◌, ◌≤◌, ◌++◌, length, IfOk, IfNone, IfSome, OnOk, OnErr};
-ghost use Rattle.cases.specs.Slots.{named, padded, place_of, with_page};
+ghost use Rattle.cases.specs.Slots.{name_field, slot_start, with_load_page, with_zeros};
 ghost use Rattle.cases.specs.declared.layout.slot.TheConstants.{LOAD_PAGES};
 
 use crate::case_error::CaseError;
@@ -46,8 +46,8 @@ pub const OBJECTS: Slots = Slots {
 impl Slots {
     /// Where the slot with this number begins, where there is one.
     pub fn place(&self, slot: usize) -> Option<usize>
-        ensures some { IfSome result (λ place. (slot < self.now.count) × (place ≡ place_of self.now slot)) }
-        ensures none { IfNone result ((self.now.count ≤ slot) ⊎ (2 ^ 64 ≤ place_of self.now slot)) }
+        ensures some { IfSome result (λ place. (slot < self.now.count) × (place ≡ slot_start self.now slot)) }
+        ensures none { IfNone result ((self.now.count ≤ slot) ⊎ (2 ^ 64 ≤ slot_start self.now slot)) }
     {
         if slot < self.count {
             slot.checked_mul(self.size)?.checked_add(self.first)
@@ -91,7 +91,7 @@ pub fn push(slot: &mut Slot, bytes: &[u8]) -> Result<(), CaseError>
 
 /// Pushes bytes, and zeros up to this count.
 pub fn push_padded(slot: &mut Slot, bytes: &[u8], count: usize) -> Result<(), CaseError>
-    ensures ok { OnOk result (slot.new.items ≡ slot.old.items ++ padded count bytes.now) }
+    ensures ok { OnOk result (slot.new.items ≡ slot.old.items ++ with_zeros count bytes.now) }
 {
     let padding = count.saturating_sub(bytes.len());
     push(slot, bytes)?;
@@ -100,7 +100,7 @@ pub fn push_padded(slot: &mut Slot, bytes: &[u8], count: usize) -> Result<(), Ca
 
 /// Pushes the length of a name, and the name in 16 bytes.
 pub fn push_name(slot: &mut Slot, name: &Name) -> Result<(), CaseError>
-    ensures ok { OnOk result (slot.new.items ≡ slot.old.items ++ named name.now.items) }
+    ensures ok { OnOk result (slot.new.items ≡ slot.old.items ++ name_field name.now.items) }
 {
     push(slot, &[name.len() as u8])?;
     push_padded(slot, name, 16)
@@ -108,7 +108,7 @@ pub fn push_name(slot: &mut Slot, name: &Name) -> Result<(), CaseError>
 
 /// Names a load page in a file's slot: the low eight bits of its number among the load pages, and apart from them the ninth.
 pub fn name_page(slot: &mut Slot, index: usize, page: usize) -> Result<(), CaseError>
-    ensures ok { OnOk result (slot.new.items ≡ with_page slot.old.items index (page - LOAD_PAGES)) }
+    ensures ok { OnOk result (slot.new.items ≡ with_load_page slot.old.items index (page - LOAD_PAGES)) }
     ensures err { OnErr result ((slot.new ≡ slot.old) × ((128 ≤ index) ⊎ (length slot.old.items < 256))) }
 {
     if index >= 128 || slot.len() < 256 {
@@ -121,7 +121,7 @@ pub fn name_page(slot: &mut Slot, index: usize, page: usize) -> Result<(), CaseE
 
 fn put_number(slot: &mut [u8], index: usize, number: usize)
     requires { (index < 128) × (256 ≤ length slot.old) }
-    ensures { slot.new ≡ with_page slot.old index number }
+    ensures { slot.new ≡ with_load_page slot.old index number }
 {
     slot[64 + index] = (number % 256) as u8;
     if number >= 256 {

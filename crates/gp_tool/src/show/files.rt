@@ -3,7 +3,7 @@
 ghost use Rattle.std.specs.Prelude.{◌≡◌, ◌≤◌, ◌++◌, ℕ, List, [], ◌∷◌, Some, true, length, OnOk, IfErr, IfSome, IfNone};
 ghost use Rattle.std.specs.List.{flat_map};
 ghost use Rattle.std.proofs.lemmas.Cmp.{nat_list_cmp_total};
-ghost use Rattle.gp_tool.specs.Prelude.{CardRepresents, IsLeast, LeavesOnly, NoneFits, Reopens, ShowCause, State, Writes, aid_order, array_vec_len, domain_aid, file_content, file_line, file_names, file_of, held, is_next_file, load_page};
+ghost use Rattle.gp_tool.specs.Prelude.{CardRepresents, IsLeast, LeavesOnly, NoneFits, Reopens, ShowCause, State, Writes, aid_order, array_vec_len, domain_aid, file_content, file_line, file_names, file_of, is_next_file, load_page, thing_in};
 ghost use Rattle.gp_tool.specs.declared.show.fault.ShowFault.TheVariants.{Write};
 
 use crate::show::fault::ShowFault;
@@ -85,7 +85,7 @@ fn write_file<F: Flash, K: Sink>(
     sink: &mut K,
 ) -> Result<(), ShowFault>
     requires live { card.old.live ≡ true }
-    requires used { held card.old.tables.files.items slot ≡ Some file.now }
+    requires used { thing_in card.old.tables.files.items slot ≡ Some file.now }
     ensures written { F.tells → (state : State) → CardRepresents F.Flash card.old state
         → Writes K.tells (K.state sink.old).written (K.state sink.new).written (file_line (file_of (load_page (F.pages card.old.flash)) card.old.tables.entries.items file.now)) result }
     ensures moments { F.tells → (state : State) → CardRepresents F.Flash card.old state

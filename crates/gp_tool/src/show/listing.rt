@@ -5,7 +5,7 @@ ghost use Rattle.std.specs.Cmp.{IsTotalOrder};
 ghost use Rattle.std.specs.Ordering.{is_lt};
 ghost use Rattle.std.specs.declared.cmp.Ordering.{Ordering};
 ghost use Rattle.std.proofs.lemmas.Cmp.{on_total};
-ghost use Rattle.gp_tool.specs.Prelude.{ForText, HasCause, IsLeastFound, NoneFits, Writes, comes_past, held};
+ghost use Rattle.gp_tool.specs.Prelude.{ForText, HasCause, IsLeastFound, NoneFits, Writes, comes_past, thing_in};
 
 use crate::show::line::LINE_ROOM;
 use arrayvec::ArrayVec;
@@ -100,7 +100,7 @@ pub fn write_lines<T, L: TextListing<T>, K: Sink>(
     sink: &mut K,
 ) -> Result<(), WriteFailed>
     requires few { length slots.now ≤ 256 }
-    requires fits { (slot : ℕ) (thing : T) → held slots.now slot ≡ Some thing → L.listed listing.now thing ≡ true → L.can_spell listing.now thing }
+    requires fits { (slot : ℕ) (thing : T) → thing_in slots.now slot ≡ Some thing → L.listed listing.now thing ≡ true → L.can_spell listing.now thing }
     ensures written { ForText (L.named listing.now) (L.text listing.now) (L.listed listing.now) L.order slots.now
         (λ text. Writes K.tells (K.state sink.old).written (K.state sink.new).written text result) }
     ensures flushes { (K.state sink.new).flushes ≡ (K.state sink.old).flushes }

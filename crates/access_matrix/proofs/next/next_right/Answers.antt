@@ -1,7 +1,7 @@
 use Rattle.std.proofs.Common.{Some, subst}
 use Rattle.std.specs.Prelude.{IfNone, option_copied, option_map}
 use Rattle.access_matrix.specs.Next.{HasCandidate, NoneNext, place_order}
-use Rattle.access_matrix.specs.Rights.{place_of}
+use Rattle.access_matrix.specs.Rights.{right_key}
 use Rattle.access_matrix.specs.declared.deed.Right.{Right}
 use Rattle.access_matrix.proofs.Awaited.{allowed_next, awaits_after, fewer_turns, stands_after}
 use Rattle.access_matrix.proofs.next.next_right.Goals as goal
@@ -21,10 +21,10 @@ loop-next-smaller c =
 pub loop-next-preserved : goal.loop-next-preserved
 loop-next-preserved c =
     let some = rw c.right_of.ensures at c.candidate_after-next.ensures.some in
-    let none = subst (λ (right : Right). IfNone c.candidate_after-next.result (NoneNext (HasCandidate c.args.tables.now) place_order (Some (place_of right))))
+    let none = subst (λ (right : Right). IfNone c.candidate_after-next.result (NoneNext (HasCandidate c.args.tables.now) place_order (Some (right_key right))))
     c.right_of.ensures c.candidate_after-next.ensures.none in
     let stands = rw c.in-Some.is at c.loop-next.invariant.stands in
-    let last = option_map place_of (option_copied c.args.last) in
+    let last = option_map right_key (option_copied c.args.last) in
     record {
       stands = stands_after c.args.tables.now last c.in-Some.candidate stands c.candidate_after-next.result some;
       awaits = λ page said says.

@@ -1,5 +1,5 @@
 use Rattle.std.proofs.Common.{inl, sym, subst}
-use Rattle.card_core.specs.Prelude.{IsCard, Reopens, ReopensEither, Represents, load_page, stored}
+use Rattle.card_core.specs.Prelude.{IsCard, Reopens, ReopensEither, Represents, load_page, stored_page}
 use Rattle.rec_store.proofs.Leaving.{joined, weaker}
 use Rattle.rec_store.proofs.Reopening.{has_pages}
 use Rattle.card_core.proofs.commit.commit.Goals as goal
@@ -12,7 +12,7 @@ returns-in_err-write_pages-clause-moments g c told before after keeps says =
 pub commit-requires-clause-card : goal.commit-requires-clause-card
 commit-requires-clause-card g c told =
     let pages = g.F.Flash.pages c.write_pages.new.records.flash in
-    subst (IsCard (load_page pages)) (sym c.write_pages.ensures.same.0) (c.requires.cards (load_page pages) (has_pages (stored pages)))
+    subst (IsCard (load_page pages)) (sym c.write_pages.ensures.same.0) (c.requires.cards (load_page pages) (has_pages (stored_page pages)))
 
 pub returns-clause-moments : goal.returns-clause-moments
 returns-clause-moments g c told before after keeps says =

@@ -2,7 +2,7 @@ use Rattle.std.proofs.Common.{◌≡◌, ℕ, List, Option, None, ap, sym, subst
 use Rattle.std.specs.Prelude.{IsSome, slice_set}
 use Rattle.card_check.proofs.CardNames.{file_aid_is}
 use Rattle.card_types.proofs.Next.{held_from_name}
-use Rattle.card_core.specs.Prelude.{Represents, file_aid, held, without_applications, without_file}
+use Rattle.card_core.specs.Prelude.{Represents, file_aid, thing_in, without_applications, without_file}
 use Rattle.card_types.specs.declared.tables.LoadFile.{LoadFile}
 use Rattle.card_core.proofs.Answered.{entry_room, file_room, loaded_room_again}
 use Rattle.card_core.proofs.delete_object.remove_loaded.Goals as goal
@@ -12,7 +12,7 @@ remove_applications-requires-clause-room g c = entry_room c.args.records.now.sta
 
 pub remove_file-requires-clause-slot : goal.remove_file-requires-clause-slot
 remove_file-requires-clause-slot g c =
-    subst (λ (files : List (Option LoadFile)). IsSome (held files c.args.slot)) (sym c.remove_applications.ensures.slots.files) c.requires.slot
+    subst (λ (files : List (Option LoadFile)). IsSome (thing_in files c.args.slot)) (sym c.remove_applications.ensures.slots.files) c.requires.slot
 
 pub remove_file-requires-clause-room : goal.remove_file-requires-clause-room
 remove_file-requires-clause-room g c =

@@ -4,7 +4,7 @@ use Rattle.std.proofs.lemmas.Grind.{common_steps}
 use Rattle.std.proofs.lemmas.List.{length-take-le}
 use Rattle.std.proofs.lemmas.List.Elements.{All-get_or}
 use Rattle.std.specs.Prelude.{slice_index}
-use Rattle.card_core.specs.Prelude.{Holds256, IsLoadPage, load_page, pages_of, stored}
+use Rattle.card_core.specs.Prelude.{Holds256, IsLoadPage, load_page, pages_of, stored_page}
 use Rattle.card_core.proofs.LoadReads.{fed, reads_on}
 use Rattle.rec_store.proofs.Reopening.{has_pages}
 use Rattle.card_core.proofs.digest.digest_of.Goals as goal
@@ -42,7 +42,7 @@ loop-index-preserved g c =
           let more = subst (λ pages. Holds256 c.feed_page.new.hasher (message ++ take c.min-count.result (load_page pages (slice_index file.pages c.loop-index.index)))) (c.loop-index.invariant.0.seen told)
           (c.in_ok-feed_page.ensures.fed told message (c.loop-index.invariant.1 told)) in
           subst (Holds256 c.feed_page.new.hasher)
-          (fed page (has_pages (stored (F.pages old.flash))) file.pages file.len c.loop-index.index c.min-count.result (omega (arith, before, long, size)) before (c.min-count.ensures ∙ omega (arith, c.from-len.ensures)))
+          (fed page (has_pages (stored_page (F.pages old.flash))) file.pages file.len c.loop-index.index c.min-count.result (omega (arith, before, long, size)) before (c.min-count.ensures ∙ omega (arith, c.from-len.ensures)))
           more),
       c.in_ok-feed_page.ensures.cause.ok ∙ c.loop-index.invariant.2,
     )

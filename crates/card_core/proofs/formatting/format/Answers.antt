@@ -4,7 +4,7 @@ use Rattle.std.specs.List.{IsDistinct}
 use Rattle.std.specs.Prelude.{replicate}
 use Rattle.std.proofs.lemmas.List.Elements.{All-cons, All-nil}
 use denote.RawPtr.{null_ptr}
-use Rattle.card_core.specs.Prelude.{HasFirst, IsCard, IsFactory, IsFactoryKey, IsInLoadPages, IsLoadPage, factory_entry, factory_file, factory_registry, held, load_page}
+use Rattle.card_core.specs.Prelude.{HasFirst, IsCard, IsFactory, IsFactoryKey, IsInLoadPages, IsLoadPage, factory_entry, factory_file, factory_registry, load_page, thing_in}
 use Rattle.card_types.proofs.FactoryRegistry.{factory_layout, factory_says}
 use Rattle.card_types.proofs.FactoryWell.{factory_well}
 use Rattle.card_types.specs.declared.card_life.CardLife.TheVariants.{OpReady}
@@ -18,13 +18,13 @@ use Rattle.card_core.proofs.formatting.format.Goals as goal
 abbrev vec_of : {T : Type 0} (items : List T) (count : ℕ) → count ≡ length items → count < 2 ^ 63 → Vec T
 vec_of items count is small = record { ptr = null_ptr; len = count; cap = count; alloc = record { memory = record { seal = tt } }; items = items; ok = (is, omega arith); small = small }
 
-free : {T : Type 0} (count slot : ℕ) → held {T = T} (replicate count None) slot ≡ None
+free : {T : Type 0} (count slot : ℕ) → thing_in {T = T} (replicate count None) slot ≡ None
 free zero slot = refl
 free (suc count) zero = refl
 free (suc count) (suc slot) = free count slot
 
 -- things in the first slots, and free slots after them
-behind : {T : Type 0} (things : List (Option T)) (count slot : ℕ) → held (things ++ replicate count None) slot ≡ held things slot
+behind : {T : Type 0} (things : List (Option T)) (count slot : ℕ) → thing_in (things ++ replicate count None) slot ≡ thing_in things slot
 behind [] count slot = free count slot
 behind (thing ∷ things) count zero = refl
 behind (thing ∷ things) count (suc slot) = behind things count slot

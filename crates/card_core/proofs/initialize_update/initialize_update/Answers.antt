@@ -1,6 +1,6 @@
 use Rattle.std.proofs.Common.{None, Some, refl, sym, subst, ◌∙◌}
 use Rattle.card_types.proofs.Domains.{key_owner_is_used}
-use Rattle.card_core.specs.Prelude.{ActsIn, HasNextCounter, IsInOrder, IsMade, acting, counter_of, domain_aid, key_of, offered}
+use Rattle.card_core.specs.Prelude.{ActsIn, HasNextCounter, IsInOrder, IsMade, acting, counter_of, domain_aid, key_of, new_offer}
 use Rattle.card_core.proofs.Cards.{in_order}
 use Rattle.card_core.proofs.CounterRaised.{raised_are_cards, raised_well, says_raised}
 use Rattle.card_core.proofs.OfferMade.{offer_stands, refusal_handed, set_asked}
@@ -46,7 +46,7 @@ returns-clause-done g c page admitted acts request =
     let keys = given.keys page admitted.at.registry says in
     let stands = offer_stands _ _ _ _ _ found.aid.now (acting admitted) c.copy_from_slice.new.self admitted.command.body c.of_set-offer.ensures.made
     (given.selected ∙ sym on.on) (c.copy_from_slice.ensures.after ∙ means.1) in
-    let offer = offered key.bytes.items found.keys.mac.now.bytes.items found.keys.dek.now.bytes.items key.counter (acting admitted) admitted.command.body in
+    let offer = new_offer key.bytes.items found.keys.mac.now.bytes.items found.keys.dek.now.bytes.items key.counter (acting admitted) admitted.command.body in
     let else_ = c.raise_counter.ensures.same_else in
     let raises = c.raise_counter.ensures.raises in
     let made : IsMade admitted page c.raise_counter.new.keeper.tables (Offered c.of_set-offer.result) c.write_offer.new.reply.items = record {

@@ -1,6 +1,6 @@
 use Rattle.std.proofs.Common.{rules, ◌≡◌, ◌≤◌, ◌+◌, ℕ, List, [], ◌∷◌, ◌++◌, Bool, true, Option, None, Some, sym, ap, subst, ◌∙◌}
 use Rattle.std.specs.Prelude.{drop}
-use Rattle.card_core.specs.Prelude.{IsAfterBlock, IsBlockTaken, IsInOrder, IsLoaded, IsWholeFile, NoneHas, RepresentsAfter, RepresentsLoad, RepresentsWhole, block_in, is_domain_in, len_of, live_without_load, load_aid, load_slot, loaded, pages_in, pages_of, with_block}
+use Rattle.card_core.specs.Prelude.{IsAfterBlock, IsBlockTaken, IsInOrder, IsLoaded, IsWholeFile, NoneHas, RepresentsAfter, RepresentsLoad, RepresentsWhole, block_in, is_domain_in, len_of, live_without_load, load_aid, load_slot, pages_after, pages_in, pages_of, with_block}
 use Rattle.card_types.specs.declared.limits.TheConstants.{LOAD_PAGES}
 use Rattle.load_session.specs.declared.session.LoadSession.{LoadSession}
 use Rattle.content_rules.proofs.LoadJudging.{front_refuses}
@@ -20,7 +20,7 @@ returns-in_err-name-clause-done g c page admitted whole shows sound acts on aske
     let loads = shows.loading in
     let refused = rw c.tables.ensures.tables at c.in_err-name.ensures.refused in
     let rule = c.in_err-name.field-0.0 in
-    load_refused admitted asked.form (loaded page c.args.channels.now.loading.writes.items) c.args.records.now.tables c.args.channels.now.live c.args.channels.now.loading.session c.args.reply.now.items
+    load_refused admitted asked.form (pages_after page c.args.channels.now.loading.writes.items) c.args.records.now.tables c.args.channels.now.live c.args.channels.now.loading.session c.args.reply.now.items
     c.from_residual.result rule c.from_residual.ensures.1 (front_refuses admitted rule (refused page admitted acts (record { named = says.load; on = on }) asked.means)) c.requires.empty
 
 pub returns-in_err-judged-clause-done : goal.returns-in_err-judged-clause-done
@@ -33,7 +33,7 @@ returns-in_err-judged-clause-done g c page admitted whole shows sound acts on as
     at c.in_ok-name.ensures.name on whole acts says sound loads asked.means (passed page admitted acts (record { named = says.load; on = on }) asked.means) in
     let refused = rw c.tables-2.ensures.tables at c.in_err-judged.ensures.refused in
     let rule = c.in_err-judged.field-0.0 in
-    load_refused admitted asked.form (loaded page c.args.channels.now.loading.writes.items) c.args.records.now.tables c.args.channels.now.live c.args.channels.now.loading.session c.args.reply.now.items
+    load_refused admitted asked.form (pages_after page c.args.channels.now.loading.writes.items) c.args.records.now.tables c.args.channels.now.live c.args.channels.now.loading.session c.args.reply.now.items
     c.from_residual-in_err-judged.result rule c.from_residual-in_err-judged.ensures.1 (refused page admitted is_for) c.requires.empty
 
 -- more blocks come
@@ -65,12 +65,12 @@ returns-then-not-request-clause-done g c page admitted whole shows sound acts on
     let stands = rw c.tables-3.ensures.tables at c.take_block.ensures.stands in
     let load = (load_on page tables kept name c.args.domain request admitted is_for).load in
     let before = subst (λ (k : LoadSession). RepresentsLoad page tables k load) same (load_stands page tables kept name c.args.domain request admitted is_for) in
-    let after = subst (λ (last : Bool). RepresentsAfter last (loaded page writes) tables c.take_block.new.self (with_block load taken.size (drop taken.start request.block.now)))
+    let after = subst (λ (last : Bool). RepresentsAfter last (pages_after page writes) tables c.take_block.new.self (with_block load taken.size (drop taken.start request.block.now)))
     c.if-not-request.true (stands page load whole before) in
     let done = more_loaded page tables live kept name c.args.domain request admitted is_for asked.form says (passed page admitted is_for) taken brought writes new.own.free
     c.if-not-request.true c.take_block.new.self after in
     let body : c.push.new.self.items ≡ 0x00 ∷ [] = c.push.ensures.items ∙ ap (λ (bytes : List ℕ). bytes ++ 0x00 ∷ []) c.requires.empty in
-    let So : Live → List ℕ → Type 0 = (λ (l : Live) (bytes : List ℕ). IsLoaded admitted (loaded page writes) tables l (Some c.take_block.new.self) bytes (record { 0 = 0x9000 })) in
+    let So : Live → List ℕ → Type 0 = (λ (l : Live) (bytes : List ℕ). IsLoaded admitted (pages_after page writes) tables l (Some c.take_block.new.self) bytes (record { 0 = 0x9000 })) in
     subst (So c.count_block.new.self) (sym body) (subst (λ (l : Live). So l (0x00 ∷ [])) (sym c.count_block.ensures) done)
 
 -- it was the last one: what its file is like
@@ -132,11 +132,11 @@ returns-clause-done g c page admitted whole shows sound acts on asked =
     let load = (load_on page tables kept name c.args.domain request admitted is_for).load in
     let next = with_block load taken.size (drop taken.start request.block.now) in
     let before = subst (λ (k : LoadSession). RepresentsLoad page tables k load) same (load_stands page tables kept name c.args.domain request admitted is_for) in
-    let after = subst (λ (b : Bool). RepresentsAfter b (loaded page writes) tables c.take_block.new.self next) c.if-not-request.false (stands page load whole before) in
-    let file = c.finish.ensures.file (loaded page writes) tables next (subst (λ (k : LoadSession). RepresentsWhole (loaded page writes) tables k next) (sym last) after) in
+    let after = subst (λ (b : Bool). RepresentsAfter b (pages_after page writes) tables c.take_block.new.self next) c.if-not-request.false (stands page load whole before) in
+    let file = c.finish.ensures.file (pages_after page writes) tables next (subst (λ (k : LoadSession). RepresentsWhole (pages_after page writes) tables k next) (sym last) after) in
     let done = last_loaded page tables live kept name c.args.domain request admitted is_for asked.form says (passed page admitted is_for) taken brought writes new.own.free
     c.if-not-request.false c.finish.result file c.in_ok-judged.judged.receipter (finds page admitted acts c.if-not-request.false) c.add_loaded.new.records.tables c.add_loaded.ensures.aids
     c.add_loaded.new.reply.items c.add_loaded.ensures.added in
     let So : Live → Option LoadSession → Type 0 = (λ (l : Live) (session : Option LoadSession).
-    IsLoaded admitted (loaded page writes) c.add_loaded.new.records.tables l session c.add_loaded.new.reply.items (record { 0 = 0x9000 })) in
+    IsLoaded admitted (pages_after page writes) c.add_loaded.new.records.tables l session c.add_loaded.new.reply.items (record { 0 = 0x9000 })) in
     subst (So c.end_load.new.self) (sym c.take.ensures.after) (subst (λ (l : Live). So l None) (sym (c.end_load.ensures ∙ ap (live_without_load live) on)) done)

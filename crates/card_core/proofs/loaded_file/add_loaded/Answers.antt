@@ -1,5 +1,5 @@
 use Rattle.std.proofs.Common.{rules, ◌≡◌, ◌≤◌, ℕ, List, [], ◌∷◌, Option, Some, length, sym, ap, subst, ◌∙◌}
-use Rattle.card_core.specs.Prelude.{AnswersFor, HasPageNumbers, held}
+use Rattle.card_core.specs.Prelude.{AnswersFor, HasPageNumbers, thing_in}
 use Rattle.card_types.proofs.Domains.{domain_aid_is}
 use Rattle.card_types.specs.declared.tables.Entry.{Entry}
 use Rattle.card_types.specs.declared.tables.Tables.{Tables}
@@ -21,9 +21,9 @@ returns-clause-added g c page admitted domain acts finds =
     let before = c.args.records.now.tables in
     let after = c.place_file.new.records.tables in
     let into = c.unwrap.result.now in
-    let there : held c.deref.result.now c.args.file.domain ≡ Some into = search rules in
+    let there : thing_in c.deref.result.now c.args.file.domain ≡ Some into = search rules in
     let slots : c.deref.result.now ≡ before.entries.items = c.deref.ensures.value ∙ ap (λ (t : Tables). t.entries.items) c.tables.ensures.tables in
-    let at : held before.entries.items c.args.file.domain ≡ Some into = ap (λ (s : List (Option Entry)). held s c.args.file.domain) (sym slots) ∙ there in
+    let at : thing_in before.entries.items c.args.file.domain ≡ Some into = ap (λ (s : List (Option Entry)). thing_in s c.args.file.domain) (sym slots) ∙ there in
     let aid = domain_aid_is before.entries.items c.args.file.domain into at in
     let added = c.place_file.ensures.said page admitted.at.registry acts.says acts.well in
     let answers = (rw c.new-about.ensures at c.confirm.ensures.answered) page admitted before domain added.0 (record {

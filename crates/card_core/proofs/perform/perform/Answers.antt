@@ -1,6 +1,6 @@
 use Rattle.std.proofs.Common.{◌≡◌, arith, ℕ, ◌<◌, refl, sym, ap, subst}
 use Rattle.std.specs.Prelude.{Contains}
-use Rattle.card_core.specs.Prelude.{Apdu, IsInOrder, IsRequestOf, IsWellFormed, changing, form_in, kept_of, loaded}
+use Rattle.card_core.specs.Prelude.{Apdu, IsInOrder, IsRequestOf, IsWellFormed, changing, form_in, kept_of, pages_after}
 use Rattle.policy_machine.specs.declared.channels.TheConstants.{CHANNELS}
 use Rattle.policy_rules.specs.declared.request.Request.{Request}
 use Rattle.card_core.proofs.Acting.{answer_done, listing_done, loading_done, offer_done}
@@ -134,7 +134,7 @@ pub returns-in-Load-clause-done : goal.returns-in-Load-clause-done
 returns-in-Load-clause-done g c = λ page judged whole shows sound asked.
     let load = c.load in
     loading_done page (kept_of c.args.records.now.tables c.args.channels.now) judged shows sound c.args.received.now.channel c.args.received.now.selected c.requires.ready.channel asked.on
-    c.requires.ready.selected (loaded page load.new.channels.loading.writes.items) (kept_of load.new.records.tables load.new.channels) load.new.reply.items load.result load.ensures.sessions
+    c.requires.ready.selected (pages_after page load.new.channels.loading.writes.items) (kept_of load.new.records.tables load.new.channels) load.new.reply.items load.result load.ensures.sessions
     (load_left page c.args.records.now load.new.records c.args.channels.now load.new.channels load.result c.requires.ready.unwritten load.ensures.refused)
     (λ acts. load.ensures.done page judged whole shows sound acts asked.on (asks_as c.args.request.now _ judged.command c.in-Load.is asked.asks))
 

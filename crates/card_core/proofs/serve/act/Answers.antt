@@ -1,6 +1,6 @@
 use Rattle.std.proofs.Common.{◌≡◌, ◌⊎◌, ℕ, List, Option, Err, refl, sym, ap, subst, ◌∙◌}
 use Rattle.std.specs.Prelude.{Contains, slice_index_or}
-use Rattle.card_core.specs.Prelude.{Admitted, Apdu, IsAsked, IsInSession, IsPassed, IsReady, IsRequestOf, apdu_of, kept_of, loaded, managing}
+use Rattle.card_core.specs.Prelude.{Admitted, Apdu, IsAsked, IsInSession, IsPassed, IsReady, IsRequestOf, apdu_of, kept_of, managing, pages_after}
 use Rattle.card_core.proofs.Acting.{holds_for, low}
 use Rattle.card_core.proofs.Carrying.{done_carried, refusal_carried, refused_carried}
 use Rattle.card_core.proofs.Passed.{session_kept}
@@ -13,9 +13,9 @@ use Rattle.card_core.specs.declared.channel_session.ChannelSession.TheVariants a
 use Rattle.card_core.proofs.serve.act.Goals as goal
 
 -- the command that has passed asks for what its request says
-is_asked : (channel : ℕ) (request : Request) (command : Apdu) (place : Option Place) (judged : Admitted) → IsRequestOf request command → IsPassed channel command place judged
-    → IsAsked channel request place judged
-is_asked channel request command place judged asks passed = record {
+is_asked : (channel : ℕ) (request : Request) (command : Apdu) (place : Option Place) (admitted : Admitted) → IsRequestOf request command → IsPassed channel command place admitted
+    → IsAsked channel request place admitted
+is_asked channel request command place admitted asks passed = record {
   on = passed.on;
   asks = subst (IsRequestOf request) (sym passed.is) asks;
   goes_on = λ lists. passed.goes_on (asks.form.0 ∙ lists);
@@ -62,5 +62,5 @@ returns-in-Err-served-clause-kept g c = λ secured kinds.
 pub returns-in_default-clause-done : goal.returns-in_default-clause-done
 returns-in_default-clause-done g c = λ page judged whole shows sound passed.
     let carried = c.perform-served.ensures.done page judged whole shows sound (is_asked c.args.received.now.channel c.in-Ok.request (apdu_of c.args.command.now) _ judged c.in-Ok.ensures.asks passed) in
-    done_carried (loaded page c.perform-served.new.channels.loading.writes.items) (kept_of c.perform-served.new.records.tables c.perform-served.new.channels) judged
+    done_carried (pages_after page c.perform-served.new.channels.loading.writes.items) (kept_of c.perform-served.new.records.tables c.perform-served.new.channels) judged
     c.perform-served.new.reply.items c.perform-served.result c.in_default.not-Err carried

@@ -2,7 +2,7 @@ use Rattle.std.proofs.Common.{◌∙◌, ◌<◌, ℕ, List, ap, inl, inr, refl,
 use Rattle.std.specs.Prelude.{slice_index_or, slice_set}
 use Rattle.std.proofs.lemmas.List.{set-get_or}
 use Rattle.apdu_core.proofs.Octets.{length-body}
-use Rattle.card_core.specs.Prelude.{Apdu, IsInSession, RepresentsState, Serves, apdu_of, kept_of, loaded}
+use Rattle.card_core.specs.Prelude.{Apdu, IsInSession, RepresentsState, Serves, apdu_of, kept_of, pages_after}
 use Rattle.policy_machine.proofs.Passing.{channel_is_low}
 use Rattle.policy_machine.specs.declared.channels.TheConstants.{CHANNELS}
 use Rattle.card_core.proofs.Coming.{closed_over, has_come, opened_still, shown, still_opened, still_secured, written_on}
@@ -96,7 +96,7 @@ returns-clause-served g c = λ page state whole shows sound.
     c.in-Ok.ensures.known c.in-Ok-pass.ensures.secured c.requires.some.shows.four low c.from-at.ensures c.act-served.ensures.kept in
     let same = ap (slice_set after.sessions c.from-at.result) c.close.ensures.same ∙ set-get_or after.sessions c.from-at.result there in
     let left = kept_of c.act-served.new.records.tables after in
-    subst (λ (h : List ChannelSession). Serves (loaded page after.loading.writes.items) state c.args.bytes.now
+    subst (λ (h : List ChannelSession). Serves (pages_after page after.loading.writes.items) state c.args.bytes.now
     (record { tables = left.tables; live = left.live; sessions = h; load = left.load }) c.close.new.reply.items c.close.result) (sym same)
     (rw c.close.ensures.rule (closed_over page card state c.args.bytes.now received c.take_place-place.new.live _ come c.pass.new.live c.pass.new.held c.in-Ok-pass.opened c.pass.new.plain passes
     c.from-at.result c.from-at.ensures whole c.plain_body.result.now c.plain_body.ensures.plain _ (λ ins. c.take_place-place.ensures.place ins)

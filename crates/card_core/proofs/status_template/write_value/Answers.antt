@@ -1,5 +1,5 @@
 use Rattle.std.proofs.Common.{◌≡◌, Some, sym, subst, ◌∙◌}
-use Rattle.card_core.specs.Prelude.{AFile, AnEntry, AreElements, IsThingAt, Thing, entry_of, file_of, held, status_parts}
+use Rattle.card_core.specs.Prelude.{AFile, AnEntry, AreElements, IsThingAt, Thing, entry_of, file_of, status_parts, thing_in}
 use Rattle.card_types.specs.declared.found.Found.{Found}
 use Rattle.card_types.specs.declared.tables.Entry.{Entry}
 use Rattle.card_types.specs.declared.tables.LoadFile.{LoadFile}
@@ -9,7 +9,7 @@ pub returns-in-Entry-clause-parts : goal.returns-in-Entry-clause-parts
 returns-in-Entry-clause-parts c page said named life at_thing =
     let tables = c.args.tables.now in
     let there = subst (λ (f : Found). IsThingAt page tables f named) c.in-Entry.is at_thing in
-    let found : held tables.entries.items c.in-Entry.slot ≡ Some c.unwrap-entry.result.now
+    let found : thing_in tables.entries.items c.in-Entry.slot ≡ Some c.unwrap-entry.result.now
     = rw c.deref.ensures.value at (rw c.unwrap-entry.ensures at c.in_slot.ensures) in
     let same : c.unwrap-entry.result.now ≡ there.0 = (let both = sym found ∙ there.1 in cc) in
     subst (λ (t : Thing). AreElements (status_parts said c.args.kind t) c.write_entry.new.value.items) (sym there.2)
@@ -20,7 +20,7 @@ pub returns-in-File-clause-parts : goal.returns-in-File-clause-parts
 returns-in-File-clause-parts c page said named life at_thing =
     let tables = c.args.tables.now in
     let there = subst (λ (f : Found). IsThingAt page tables f named) c.in-File.is at_thing in
-    let found : held tables.files.items c.in-File.slot ≡ Some c.unwrap-file.result.now
+    let found : thing_in tables.files.items c.in-File.slot ≡ Some c.unwrap-file.result.now
     = rw c.deref-in-File.ensures.value at (rw c.unwrap-file.ensures at c.in_slot-in-File.ensures) in
     let same : c.unwrap-file.result.now ≡ there.0 = (let both = sym found ∙ there.1 in cc) in
     subst (λ (t : Thing). AreElements (status_parts said c.args.kind t) c.write_file.new.value.items) (sym there.2)

@@ -1,6 +1,6 @@
 use Rattle.std.proofs.Common.{sym, subst}
 use Rattle.rec_store.proofs.Rooms.{room_stays}
-use Rattle.card_core.specs.Prelude.{HasRoomFor, object_page, object_pages}
+use Rattle.card_core.specs.Prelude.{HasFramesFor, object_page, object_pages}
 use Rattle.registry.proofs.Frames.{among_object_pages}
 use Rattle.card_core.proofs.store_data.put_object.Goals as goal
 
@@ -12,5 +12,5 @@ set_object-requires-clause-frame g c =
 pub returns-clause-frames : goal.returns-clause-frames
 returns-clause-frames g c =
     let slot = c.slot_for-slot.result in
-    subst (HasRoomFor object_pages) (sym c.set_object.ensures.staged)
+    subst (HasFramesFor object_pages) (sym c.set_object.ensures.staged)
     (room_stays object_pages c.args.records.now.staged (object_page slot) c.requires.frames (among_object_pages slot c.slot_for-slot.ensures.within)).1

@@ -2,16 +2,16 @@ use Rattle.std.proofs.Common.{◌≡◌, ℕ, List, Option, None, Some, refl}
 use Rattle.std.specs.Option.{option_map}
 use Rattle.card_types.specs.Aid.{same_aid}
 use Rattle.card_types.specs.Search.{NoneFits}
-use Rattle.card_types.specs.Represents.{held}
+use Rattle.card_types.specs.Represents.{thing_in}
 use Rattle.card_types.specs.declared.found.Found.TheVariants.{Entry, File}
 use Rattle.card_types.proofs.SameAid.{same_aid_decides}
 use Rattle.card_types.proofs.found.find.Goals as goal
 
 none_has : {T : Type 0} (named : T → List ℕ) (slots : List (Option T)) (aid : List ℕ) → NoneFits (λ thing. same_aid (named thing) aid) slots
-    → (slot : ℕ) → option_map named (held slots slot) ≡ Some aid → ⊥
-none_has {T} named slots aid none slot has = by (held slots slot) refl has
+    → (slot : ℕ) → option_map named (thing_in slots slot) ≡ Some aid → ⊥
+none_has {T} named slots aid none slot has = by (thing_in slots slot) refl has
   where
-    by : (o : Option T) → held slots slot ≡ o → option_map named o ≡ Some aid → ⊥
+    by : (o : Option T) → thing_in slots slot ≡ o → option_map named o ≡ Some aid → ⊥
     by None at is = cc
     by (Some thing) at is = none slot thing at ((same_aid_decides (named thing) aid).1 cc)
 

@@ -3,15 +3,15 @@ use Rattle.std.specs.Prelude.{IfNone, MatchOption}
 use Rattle.std.proofs.lemmas.Bool.{eq-eqb}
 use Rattle.card_types.specs.KeySets.{HasKey, IsKeyOf, is_key}
 use Rattle.card_types.specs.Search.{NoneFits}
-use Rattle.card_types.specs.Represents.{held}
+use Rattle.card_types.specs.Represents.{thing_in}
 use Rattle.card_types.specs.declared.tables.KeyRec.{KeyRec}
 use Rattle.card_types.proofs.key_set.find_key.Goals as goal
 
 none_has : (keys : List (Option KeyRec)) (owner version identifier : ℕ) → NoneFits (is_key owner version identifier) keys
     → (slot : ℕ) → HasKey keys owner version identifier slot → ⊥
-none_has keys owner version identifier none slot has = by (held keys slot) refl has
+none_has keys owner version identifier none slot has = by (thing_in keys slot) refl has
   where
-    by : (o : Option KeyRec) → held keys slot ≡ o → MatchOption o ⊥ (IsKeyOf owner version identifier) → ⊥
+    by : (o : Option KeyRec) → thing_in keys slot ≡ o → MatchOption o ⊥ (IsKeyOf owner version identifier) → ⊥
     by None at is = is
     by (Some key) at is =
         none slot key at

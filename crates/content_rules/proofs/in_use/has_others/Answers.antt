@@ -1,13 +1,13 @@
 use Rattle.std.proofs.Common.{rules, ◌≡◌, inl, inr, Some, sym, ◌∙◌}
 use Rattle.std.specs.List.{list_any}
-use Rattle.content_rules.specs.Prelude.{held, is_file_of, is_other_of}
+use Rattle.content_rules.specs.Prelude.{is_file_of, is_other_of, thing_in}
 use Rattle.content_rules.proofs.DeleteObjectSlots.{entries_searched, files_searched, others_found}
 use Rattle.content_rules.proofs.in_use.has_others.Goals as goal
 use Rattle.content_rules.proofs.in_use.has_others.Goals.{After-unwrap-entry}
 
 -- the entry in its slot
-entry_held : (c : After-unwrap-entry) → held c.args.tables.now.entries.items c.args.slot ≡ Some c.unwrap-entry.result.now
-entry_held c = (let there : held c.deref.result.now c.args.slot ≡ Some c.unwrap-entry.result.now = search rules in rw c.deref.ensures.value at there)
+entry_held : (c : After-unwrap-entry) → thing_in c.args.tables.now.entries.items c.args.slot ≡ Some c.unwrap-entry.result.now
+entry_held c = (let there : thing_in c.deref.result.now c.args.slot ≡ Some c.unwrap-entry.result.now = search rules in rw c.deref.ensures.value at there)
 
 pub returns-then-has_other_entry : goal.returns-then-has_other_entry
 returns-then-has_other_entry c =

@@ -1,6 +1,6 @@
 use Rattle.std.proofs.Common.{length, sym, ◌∙◌, arith}
 use Rattle.std.proofs.lemmas.Bool.{eqb-false, false≢true}
-use Rattle.policy_machine.proofs.InstallApplicationAsking.{no_elements, some_behind, some_with}
+use Rattle.policy_machine.proofs.InstallApplicationAsking.{no_elements, some_after, some_with}
 use Rattle.content_rules.proofs.install_application.are_elements.Goals as goal
 
 pub returns-in_default : goal.returns-in_default
@@ -16,5 +16,5 @@ loop-rest-preserved c =
     let after = c.in-Ok.after.now in
     let rest = c.loop-rest.rest.now in (
       λ elements. c.loop-rest.invariant.0 (some_with element.tag element.value.now after rest c.in-Ok.ensures.found elements),
-      λ elements. some_behind element.tag element.value.now after rest c.in-Ok.ensures.found (c.loop-rest.invariant.1 elements),
+      λ elements. some_after element.tag element.value.now after rest c.in-Ok.ensures.found (c.loop-rest.invariant.1 elements),
     )

@@ -1,6 +1,6 @@
 use Rattle.std.proofs.Common.{[], ◌∷◌, refl, sym}
 use Rattle.std.proofs.lemmas.Bool.{eqb-false, eqb-true}
-use Rattle.policy_machine.proofs.LengthFields.{before_more, more_fields, no_more_fields, none_behind, none_here, none_later}
+use Rattle.policy_machine.proofs.LengthFields.{before_more, more_fields, no_more_fields, none_after, none_here, none_later}
 use Rattle.content_rules.proofs.install_fields.read_five.Goals as goal
 
 pub returns-in_err-first-clause-none : goal.returns-in_err-first-clause-none
@@ -34,7 +34,7 @@ returns-then-not-is_empty-clause-none c =
     (none_later _ _ _ 3 c.in_ok-second.ensures.some
     (none_later _ _ _ 2 c.in_ok-third.ensures.some
     (none_later _ _ _ 1 c.in_ok-fourth.ensures.some
-    (none_later _ _ _ 0 c.in_ok-token.ensures.some (none_behind _ (eqb-false _ 0 (sym c.if-not-is_empty.ensures)))))))
+    (none_later _ _ _ 0 c.in_ok-token.ensures.some (none_after _ (eqb-false _ 0 (sym c.if-not-is_empty.ensures)))))))
 
 pub returns-clause-some : goal.returns-clause-some
 returns-clause-some c =

@@ -3,7 +3,7 @@ use Rattle.std.proofs.Math.Bool.{or-false, or-true}
 use Rattle.std.proofs.lemmas.List.{append-nil}
 use Rattle.gp_tool.specs.Effects.{nothing}
 use Rattle.gp_tool.specs.Compare.{IsMet}
-use Rattle.gp_tool.specs.Replay.{Kept, Meets, difference}
+use Rattle.gp_tool.specs.Replay.{LastReply, Meets, difference}
 use Rattle.gp_tool.proofs.Kept.{kept_is, not_true, wrote_line}
 use Rattle.gp_tool.proofs.replay.compare_line.Goals as goal
 
@@ -25,7 +25,7 @@ returns-then-is_same-clause-compared g c = (
 )
 
 -- a reply that is not the one wanted
-met_otherwise : (number : ℕ) (line : List ℕ) (kept kept' : Kept) (differs : Bool) (want got : List ℕ) → Meets line kept want got → want ≢ got → kept' ≡ None
+met_otherwise : (number : ℕ) (line : List ℕ) (kept kept' : LastReply) (differs : Bool) (want got : List ℕ) → Meets line kept want got → want ≢ got → kept' ≡ None
     → IsMet number line kept kept' differs true
 met_otherwise number line kept kept' differs want got meets other none = record {
   want = want;

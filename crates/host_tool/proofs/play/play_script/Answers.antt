@@ -1,7 +1,7 @@
 use Rattle.std.proofs.Common.{ap, sym, subst, ◌∙◌}
 use Rattle.host_tool.proofs.Causes.{good_script}
 use Rattle.host_tool.proofs.WholeRuns.{host_done, host_ends}
-use Rattle.host_tool.specs.Ends.{HostEnds, NoneRefused, flows, told}
+use Rattle.host_tool.specs.Ends.{HostEnds, NoneRefused, flows, tells_of}
 use Rattle.host_tool.specs.Flush.{HostFlushes}
 use Rattle.host_tool.specs.Link.{Linked, sides_of}
 use Rattle.host_tool.specs.Ending.{host_ending}
@@ -14,7 +14,7 @@ returns-clause-ends g c =
     let link = c.new-host.ensures.link in
     subst
     (λ (p : g.row.S.Denot × g.row.K.Denot).
-    HostEnds (told g.C.Source.tells g.S.Source.tells g.K.Sink.tells g.T.Sink.tells) c.status-status.result old
+    HostEnds (tells_of g.C.Source.tells g.S.Source.tells g.K.Sink.tells g.T.Sink.tells) c.status-status.result old
     (flows (g.C.Source.state c.take_lines-end.new.source) (g.S.Source.state p.0) (g.K.Sink.state p.1) (g.T.Sink.state c.flush_at_end.new.sink)))
     (sym c.into_streams-replies.ensures)
     (host_ends g.S.Source g.K.Sink g.C.Source.tells g.T.Sink.tells old c.new-host.result c.take_lines-end.new.taker

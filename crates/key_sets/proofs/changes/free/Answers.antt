@@ -1,6 +1,6 @@
 use Rattle.std.proofs.Common.{◌≡◌, ◌<◌, List, Option, length, refl, sym, subst, ◌∙◌, arith}
 use Rattle.std.proofs.lemmas.List.{length-set}
-use Rattle.card_types.specs.Represents.{held}
+use Rattle.card_types.specs.Represents.{thing_in}
 use Rattle.card_types.specs.declared.limits.TheConstants.{KEYS}
 use Rattle.card_types.specs.declared.tables.KeyRec.{KeyRec}
 use Rattle.key_rules.specs.InSlots.{holds_one_of}
@@ -17,8 +17,8 @@ loop-slot-preserved g c =
     let slot = c.loop-slot.slot in
     let before = c.loop-slot.invariant in
     let slots = R.slots c.loop-slot.keeper in
-    let here : c.goes.result ≡ holds_one_of owner version (held slots slot) =
-    subst (λ (keys : List (Option KeyRec)). c.goes.result ≡ holds_one_of owner version (held keys slot)) c.keys.ensures.key_slots c.goes.ensures in
+    let here : c.goes.result ≡ holds_one_of owner version (thing_in slots slot) =
+    subst (λ (keys : List (Option KeyRec)). c.goes.result ≡ holds_one_of owner version (thing_in keys slot)) c.keys.ensures.key_slots c.goes.ensures in
     let all : length slots ≡ KEYS = subst (λ (keys : List (Option KeyRec)). length keys ≡ KEYS) c.keys.ensures.key_slots c.keys.ensures.count in
     let within : slot < length slots = omega (arith, all, c.loop-slot-test.true) in
     elim c.if-goes.branch [

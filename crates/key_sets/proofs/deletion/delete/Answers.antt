@@ -1,7 +1,7 @@
 use Rattle.std.proofs.Common.{◌≡◌, false, List, Option, refl, sym, subst, ◌∙◌}
 use Rattle.std.specs.List.Sorted.{IsPermutation}
 use Rattle.std.proofs.lemmas.List.Sorted.{IsPermutation-refl}
-use Rattle.card_types.specs.Represents.{used}
+use Rattle.card_types.specs.Represents.{things_in}
 use Rattle.card_types.specs.declared.tables.KeyRec.{KeyRec}
 use Rattle.key_rules.specs.PutFails.{has_version}
 use Rattle.key_rules.proofs.Stays.{none_goes}
@@ -14,5 +14,5 @@ returns-then-not-has_version-clause-deletes g c =
     subst (λ (keys : List (Option KeyRec)). has_version c.args.owner c.args.version keys ≡ false) c.keys.ensures.key_slots (sym c.has_version.ensures ∙ c.if-not-has_version.true) in
     record {
       count = refl;
-      keys = subst (λ (keys : List KeyRec). IsPermutation (used slots) keys) (sym (none_goes c.args.owner c.args.version (used slots) none)) (IsPermutation-refl (used slots));
+      keys = subst (λ (keys : List KeyRec). IsPermutation (things_in slots) keys) (sym (none_goes c.args.owner c.args.version (things_in slots) none)) (IsPermutation-refl (things_in slots));
     }

@@ -1,7 +1,7 @@
 use Rattle.std.proofs.Common.{◌≡◌, ◌<◌, ◌≤◌, List, Option, None, length, take, get_or, ap, sym, subst, ◌∙◌, arith}
 use Rattle.std.proofs.lemmas.List.{get_or_read, take_all}
 use Rattle.std.proofs.lemmas.List.Elements.{All-contains}
-use Rattle.load_session.specs.Prelude.{HasMarks, IsInLoadPages, all_pages, used}
+use Rattle.load_session.specs.Prelude.{HasMarks, IsInLoadPages, all_pages, things_in}
 use Rattle.card_types.proofs.Shows.{used_from_held}
 use Rattle.card_types.specs.declared.tables.LoadFile.{LoadFile}
 use Rattle.load_session.proofs.PageMarks.{pages_of_next, pages_of_pass}
@@ -14,7 +14,7 @@ named-requires c =
     let i = c.loop-slot.slot-index in
     let item = get_or_read c.deref-slot-items.result.now i c.slot-item.result (omega (arith, c.loop-slot-test.true)) c.slot-item.is None in
     let at = subst (λ (all : List (Option LoadFile)). c.slot-item.result ≡ get_or all i None) c.deref-slot-items.ensures.value item in
-    (All-contains IsInLoadPages (used files) c.in-Some.file c.requires.roomy.files (used_from_held files i c.in-Some.file (sym at ∙ c.in-Some.is))).size
+    (All-contains IsInLoadPages (things_in files) c.in-Some.file c.requires.roomy.files (used_from_held files i c.in-Some.file (sym at ∙ c.in-Some.is))).size
 
 pub loop-slot-preserved : goal.loop-slot-preserved
 loop-slot-preserved c =

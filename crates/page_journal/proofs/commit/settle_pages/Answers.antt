@@ -1,7 +1,7 @@
 use Rattle.std.proofs.Common.{ap}
 use Rattle.page_journal.specs.Journal.{bytes_of}
 use Rattle.page_journal.specs.Moments.{Leaves}
-use Rattle.page_journal.specs.Journal.{stored}
+use Rattle.page_journal.specs.Journal.{stored_page}
 use Rattle.page_journal.proofs.Runs.{then_only}
 use Rattle.page_journal.proofs.Causes.{where_ok}
 use Rattle.page_journal.proofs.Commits.{gate_is}
@@ -22,7 +22,7 @@ returns-clause-moments g c told loose before =
     let e2 = c.set_gate.ensures in
     let bytes = c.args.descriptor.now.bytes in
     let f0 = c.args.flash.now in
-    then_only F g.met.F.Flash.only_now told f0 _ _ (Leaves (stored (F.pages f0)) loose)
+    then_only F g.met.F.Flash.only_now told f0 _ _ (Leaves (stored_page (F.pages f0)) loose)
     (copied F g.met.F.Flash.only_now told bytes r.valid f0 (r.gate told) (ap bytes_of (r.named told)) loose _ (r.calm told) before (e1.touches told))
     (closing F g.met.F.Flash.only_now told bytes r.valid f0 (r.gate told) (ap bytes_of (r.named told)) loose _ _ (e1.touches told) (e1.homes told) (e1.only told) (e2.touches told))
 

@@ -1,7 +1,7 @@
 use Rattle.std.proofs.Common.{◌≡◌, ◌≢◌, ℕ, List, Option, None, Some, rules, subst, sym}
 use Rattle.std.specs.Prelude.{MatchOption}
 use Rattle.std.proofs.lemmas.Bool.{iff_false}
-use Rattle.policy_rules.specs.Prelude.{ActsIn, Admitted, IsEntryStatusOf, IsSlotStep, OwnFirst, held, managed_entry_status}
+use Rattle.policy_rules.specs.Prelude.{ActsIn, Admitted, IsEntryStatusOf, IsSlotStep, OwnFirst, managed_entry_status, thing_in}
 use Rattle.card_types.specs.declared.tables.Entry.{Entry}
 use Rattle.policy_rules.proofs.EntryStatusJudging.{first_1, first_2, first_3, first_4, issuer_fails, issuer_passes, none_first, one_change, step_other, stepless, steps, tree_change}
 use Rattle.card_types.specs.declared.life.LifeMark.{LifeMark}
@@ -9,8 +9,8 @@ use Rattle.policy_rules.proofs.entry_status.judge_change.Goals as goal
 use Rattle.policy_rules.proofs.entry_status.judge_change.Goals.{After-step_of}
 
 -- the entry that is named is in its slot
-entry_at : (c : After-step_of) → held c.args.tables.now.entries.items c.in-Some.slot ≡ Some c.unwrap-entry.result.now
-entry_at c = (let there : held c.deref.result.now c.in-Some.slot ≡ Some c.unwrap-entry.result.now = search rules in rw c.deref.ensures.value at there)
+entry_at : (c : After-step_of) → thing_in c.args.tables.now.entries.items c.in-Some.slot ≡ Some c.unwrap-entry.result.now
+entry_at c = (let there : thing_in c.deref.result.now c.in-Some.slot ≡ Some c.unwrap-entry.result.now = search rules in rw c.deref.ensures.value at there)
 
 -- no rule fails where its life cycle has the step
 stepped : (c : After-step_of) (page : ℕ → List ℕ) (admitted : Admitted) → ActsIn page c.args.tables.now c.args.domain admitted

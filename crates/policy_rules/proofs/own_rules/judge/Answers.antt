@@ -3,7 +3,7 @@ use Rattle.std.specs.Prelude.{option_copied, slice_index_or}
 use Rattle.std.specs.Option.{option_map}
 use Rattle.std.proofs.lemmas.List.{get_or_default}
 use Rattle.policy_machine.specs.declared.channels.TheConstants.{CHANNELS}
-use Rattle.policy_rules.specs.Prelude.{ActsIn, Admitted, FailsFirst, ForActingLive, IsCardStatusOf, IsFirst, IsForLoad, IsJudgedBehind, IsPlaceBefore, IsRequestOf, IsSound, Judges, LoadFails, Represents, RepresentsState, TellsChecks, Well, channel_at, command_form, front_rules, get_status, managed_card_status, managed_entry_status, managed_put_key, place_in, place_of, selected_on}
+use Rattle.policy_rules.specs.Prelude.{ActsIn, Admitted, FailsFirst, ForActingLive, IsCardStatusOf, IsFirst, IsForLoad, IsJudgedAfter, IsPlaceBefore, IsRequestOf, IsSound, Judges, LoadFails, Represents, RepresentsState, TellsChecks, Well, channel_at, command_form, front_rules, get_status, managed_card_status, managed_entry_status, managed_put_key, place_in, place_of, selected_on}
 use Rattle.policy_machine.proofs.GetDataLaws.{get_passes, get_refused}
 use Rattle.policy_machine.proofs.InitializeUpdateLaws.{offer_judged}
 use Rattle.policy_machine.proofs.Judging.{by_err, judged_by}
@@ -28,7 +28,7 @@ acts_in c page admitted says sound here =
 form_judged : (c : After-unwrap-domain) (request : Request) (found : Option Rule) → c.args.request.now ≡ request
     → ForActingLive c.args.tables.now c.args.live.now c.unwrap-domain.result (λ page admitted. IsRequestOf request admitted.command → Judges admitted found)
     → (page : ℕ → List ℕ) (admitted : Admitted) → RepresentsState page c.args.tables.now c.args.live.now admitted.at → IsSound admitted.at → c.args.channel ≡ admitted.channel
-    → IsRequestOf c.args.request.now admitted.command → IsJudgedBehind admitted.command.ins → TellsChecks c.args.checks_fit admitted → Judges admitted found
+    → IsRequestOf c.args.request.now admitted.command → IsJudgedAfter admitted.command.ins → TellsChecks c.args.checks_fit admitted → Judges admitted found
 form_judged c request found is holds page admitted says sound here asked behind checks =
     holds page admitted (acts_in c page admitted says sound here) says sound.fits.channels (subst (λ (r : Request). IsRequestOf r admitted.command) is asked)
 

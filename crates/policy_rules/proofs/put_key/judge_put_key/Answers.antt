@@ -1,6 +1,6 @@
 use Rattle.std.proofs.Common.{length}
 use Rattle.policy_rules.specs.Prelude.{PutFails, command_form, key_rules, managed_put_key, sent_keys, version_rules}
-use Rattle.policy_machine.proofs.FirstJoined.{passed_behind, refused_behind, refused_within}
+use Rattle.policy_machine.proofs.FirstJoined.{passed_after, refused_after, refused_within}
 use Rattle.policy_rules.proofs.PutKeyJudging.{roomy_ok}
 use Rattle.policy_rules.proofs.put_key.judge_put_key.Goals as goal
 
@@ -11,13 +11,13 @@ returns-in_err-judge_put_versions-clause-refused c page admitted acts request ch
 
 pub returns-clause-passed : goal.returns-clause-passed
 returns-clause-passed c page admitted acts request checks =
-    passed_behind ((command_form managed_put_key).fails admitted) key_rules version_rules c.judge_put_keys.result
+    passed_after ((command_form managed_put_key).fails admitted) key_rules version_rules c.judge_put_keys.result
     (c.in_ok-judge_put_versions.ensures.passed page admitted c.args.keys.now acts request)
     (c.judge_put_keys.ensures.passed page admitted c.args.version acts request checks)
 
 pub returns-clause-refused : goal.returns-clause-refused
 returns-clause-refused c page admitted acts request checks =
-    refused_behind ((command_form managed_put_key).fails admitted) key_rules version_rules c.judge_put_keys.result
+    refused_after ((command_form managed_put_key).fails admitted) key_rules version_rules c.judge_put_keys.result
     (c.in_ok-judge_put_versions.ensures.passed page admitted c.args.keys.now acts request)
     (c.judge_put_keys.ensures.refused page admitted c.args.version acts request checks)
 

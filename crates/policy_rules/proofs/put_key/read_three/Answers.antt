@@ -1,7 +1,7 @@
 use Rattle.std.proofs.Common.{◌≡◌, [], ◌∷◌, sym, ◌∙◌}
 use Rattle.std.proofs.lemmas.Bool.{eqb-false, eqb-true}
 use Rattle.std.proofs.lemmas.List.Elements.{All-cons, All-nil}
-use Rattle.policy_machine.proofs.KeyFields.{has_size, last_field, more_fields, none_behind, none_here, none_later, none_unlike}
+use Rattle.policy_machine.proofs.KeyFields.{has_size, last_field, more_fields, none_after, none_here, none_later, none_unlike}
 use Rattle.policy_rules.specs.Requests.{sent_key}
 use Rattle.policy_rules.proofs.put_key.read_three.Goals as goal
 
@@ -22,7 +22,7 @@ pub returns-then-not-is_empty-clause-none : goal.returns-then-not-is_empty-claus
 returns-then-not-is_empty-clause-none c =
     none_later _ c.args.bytes.now _ 2 c.in_ok-enc.ensures.some
     (none_later _ _ _ 1 c.in_ok-mac.ensures.some
-    (none_later _ _ _ 0 c.in_ok-dek.ensures.some (none_behind _ (eqb-false _ 0 (sym c.if-not-is_empty.ensures)))))
+    (none_later _ _ _ 0 c.in_ok-dek.ensures.some (none_after _ (eqb-false _ 0 (sym c.if-not-is_empty.ensures)))))
 
 pub returns-then-not-have_one_length-clause-none : goal.returns-then-not-have_one_length-clause-none
 returns-then-not-have_one_length-clause-none c =

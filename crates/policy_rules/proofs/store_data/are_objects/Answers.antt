@@ -1,6 +1,6 @@
 use Rattle.std.proofs.Common.{length, sym, ◌∙◌, arith}
 use Rattle.std.proofs.lemmas.Bool.{eqb-false, false≢true, iff_false}
-use Rattle.policy_machine.proofs.StoreDataElements.{no_objects, objects_behind, objects_with}
+use Rattle.policy_machine.proofs.StoreDataElements.{no_objects, objects_after, objects_with}
 use Rattle.policy_rules.proofs.store_data.are_objects.Goals as goal
 
 pub loop-rest-preserved : goal.loop-rest-preserved
@@ -9,7 +9,7 @@ loop-rest-preserved c =
     let after = c.in-Ok.after.now in
     let rest = c.loop-rest.rest.now in (
       λ objects. c.loop-rest.invariant.0 (objects_with element.tag element.value.now after rest c.in-Ok.ensures.found (c.is_object.ensures.0 c.if-not-is_object.false) objects),
-      λ objects. (objects_behind element.tag element.value.now after rest c.in-Ok.ensures.found (c.loop-rest.invariant.1 objects)).1,
+      λ objects. (objects_after element.tag element.value.now after rest c.in-Ok.ensures.found (c.loop-rest.invariant.1 objects)).1,
     )
 
 pub returns-then-not-is_object : goal.returns-then-not-is_object
@@ -17,7 +17,7 @@ returns-then-not-is_object c =
     let element = c.in-Ok.element in (
       λ is. absurd (false≢true is),
       λ objects. absurd (iff_false c.is_object.ensures c.if-not-is_object.true
-          (objects_behind element.tag element.value.now c.in-Ok.after.now c.loop-rest.rest.now c.in-Ok.ensures.found (c.loop-rest.invariant.1 objects)).0),
+          (objects_after element.tag element.value.now c.in-Ok.after.now c.loop-rest.rest.now c.in-Ok.ensures.found (c.loop-rest.invariant.1 objects)).0),
     )
 
 pub returns-in_default : goal.returns-in_default

@@ -1,5 +1,5 @@
 use Rattle.std.proofs.Common.{ap, arith}
-use Rattle.policy_machine.proofs.StoreDataElements.{elements_behind, none_left, rest_shorter}
+use Rattle.policy_machine.proofs.StoreDataElements.{elements_after, none_left, rest_shorter}
 use Rattle.policy_machine.proofs.NewTags.{counted_again, counted_new, counted_old}
 use Rattle.policy_rules.specs.Prelude.{has_object_in, new_tags}
 use Rattle.policy_rules.proofs.store_data.count_new.Goals as goal
@@ -15,7 +15,7 @@ loop-element-preserved-then-not-has_tag c =
       most = omega (arith, rest_shorter element.tag element.value.now after rest found, c.loop-element.invariant.most);
       number = λ are elements.
           (let behind = c.loop-element.invariant.number are elements in
-          let next = elements_behind behind.0 element.tag element.value.now after rest behind.1 found in (
+          let next = elements_after behind.0 element.tag element.value.now after rest behind.1 found in (
             next.0,
             next.2,
             counted_new (has_object_in c.args.objects.now c.args.owner) behind.0 next.0 _ c.loop-element.count _ next.1 behind.2
@@ -33,7 +33,7 @@ loop-element-preserved c =
       most = omega (arith, rest_shorter element.tag element.value.now after rest found, c.loop-element.invariant.most);
       number = λ are elements.
           (let behind = c.loop-element.invariant.number are elements in
-          let next = elements_behind behind.0 element.tag element.value.now after rest behind.1 found in (
+          let next = elements_after behind.0 element.tag element.value.now after rest behind.1 found in (
             next.0,
             next.2,
             elim c.else-not-has_object.branch [

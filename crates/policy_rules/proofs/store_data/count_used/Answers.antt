@@ -3,11 +3,11 @@ use Rattle.std.proofs.lemmas.Iterator.{YieldsList-from_slice}
 use Rattle.std.proofs.lemmas.Iterator.Consumers.{YieldsList-from_filter, count_from_yields_List}
 use Rattle.std.specs.Prelude.{filter}
 use Rattle.std.specs.Option.{is_some}
-use Rattle.card_types.specs.Represents.{used}
+use Rattle.card_types.specs.Represents.{things_in}
 use Rattle.policy_rules.proofs.store_data.count_used.Goals as goal
 
 -- the used slots are those with something
-count_some : {T : Type 0} (slots : List (Option T)) → length (filter is_some slots) ≡ length (used slots)
+count_some : {T : Type 0} (slots : List (Option T)) → length (filter is_some slots) ≡ length (things_in slots)
 count_some [] = refl
 count_some (None ∷ slots) = count_some slots
 count_some (Some thing ∷ slots) = ap suc (count_some slots)

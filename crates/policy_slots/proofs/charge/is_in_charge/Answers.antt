@@ -1,7 +1,7 @@
 use Rattle.std.proofs.Common.{rules, ◌≡◌, ◌↔◌, inl, inr, Some, subst, sym, ◌∙◌}
 use Rattle.std.specs.Prelude.{IsTrue}
 use Rattle.card_types.proofs.DomainLines.{line_in_slots}
-use Rattle.policy_slots.specs.Prelude.{IsFileInCharge, acting, file_of, held}
+use Rattle.policy_slots.specs.Prelude.{IsFileInCharge, acting, file_of, thing_in}
 use Rattle.card_types.specs.declared.tables.LoadFile.{LoadFile}
 use Rattle.policy_machine.proofs.Lawful.{some_same}
 use Rattle.policy_slots.proofs.FileCharge.{by_slots, file_below}
@@ -16,8 +16,8 @@ pub returns-else-file-domain : goal.returns-else-file-domain
 returns-else-file-domain c page admitted file acts at =
     let tables = c.args.tables.now in
     let found = c.in-Some.file.now in
-    let there : held c.deref.result.now c.args.slot ≡ Some found = search rules in
-    let here : held tables.files.items c.args.slot ≡ Some found = rw c.deref.ensures.value at there in
+    let there : thing_in c.deref.result.now c.args.slot ≡ Some found = search rules in
+    let here : thing_in tables.files.items c.args.slot ≡ Some found = rw c.deref.ensures.value at there in
     let above = rw c.deref-else-file-domain.ensures.value at c.above.ensures in
     subst (λ (f : LoadFile). IsTrue c.above.result ↔ IsFileInCharge admitted.at.registry (acting admitted) (file_of page tables.entries.items f))
     (some_same found file (sym here ∙ at)) (

@@ -1,7 +1,7 @@
 use Rattle.std.proofs.Common.{rules, ◌≡◌, ◌≢◌, Option, Some, sym, subst}
 use Rattle.std.specs.Prelude.{MatchOption}
 use Rattle.card_types.specs.Registry as registry
-use Rattle.card_types.specs.Represents.{domain_aid, key_of, held}
+use Rattle.card_types.specs.Represents.{domain_aid, key_of, thing_in}
 use Rattle.card_types.specs.declared.limits.TheConstants.{RECEIPT_LIMIT}
 use Rattle.card_types.specs.declared.tables.Entry.{Entry}
 use Rattle.policy_slots.proofs.NearestHolder.{slot_named}
@@ -9,9 +9,9 @@ use Rattle.policy_slots.proofs.delegation.judge_receipt.Goals as goal
 use Rattle.policy_slots.proofs.delegation.judge_receipt.Goals.{After-unwrap-entry}
 
 -- the confirmer's entry in its slot
-entry_held : (c : After-unwrap-entry) → held c.args.tables.now.entries.items c.in-Some.slot ≡ Some c.unwrap-entry.result.now
+entry_held : (c : After-unwrap-entry) → thing_in c.args.tables.now.entries.items c.in-Some.slot ≡ Some c.unwrap-entry.result.now
 entry_held c =
-    (let there : held c.deref.result.now c.in-Some.slot ≡ Some c.unwrap-entry.result.now = search rules in
+    (let there : thing_in c.deref.result.now c.in-Some.slot ≡ Some c.unwrap-entry.result.now = search rules in
     rw c.deref.ensures.value at there)
 
 pub returns-then-entry-clause-refused : goal.returns-then-entry-clause-refused

@@ -1,7 +1,7 @@
 use Rattle.std.proofs.Common.{sym, subst, ◌∙◌}
 use Rattle.card_types.specs.Registry.{Registry}
 use Rattle.card_types.specs.Represents.{Represents}
-use Rattle.page_journal.specs.Journal.{stored}
+use Rattle.page_journal.specs.Journal.{stored_page}
 use Rattle.page_journal.specs.Moments.{LeavesOnly}
 use Rattle.rec_store.specs.Reopens.{Reopens, load_page, store_page}
 use Rattle.rec_store.proofs.OneRegistry.{read_card}
@@ -18,7 +18,7 @@ returns-then-not-is_card-clause-err g c told =
     record {
       none = λ registry reopens.
           let card = read_card (store_page pages) (load_page pages) c.read_tables.new.tables reopens.holds.tables registry (read.held told) read.entries reopens.holds.held reopens.holds.card in
-          let is = (c.is_card.ensures (load_page pages) (has_pages (stored pages))).1 (record { said = registry; of = card }) in
+          let is = (c.is_card.ensures (load_page pages) (has_pages (stored_page pages))).1 (record { said = registry; of = card }) in
           let not_it = c.if-not-is_card.true in
           absurd (cc (is, not_it));
       unwritten = record { pages = read.read.seen told; moments = read.read.moments told };
@@ -75,7 +75,7 @@ returns-clause-says g c told =
     let pages = F.pages s0.flash in
     let now = settled_now F s0 c.read_tables.new.store s2 told (c.requires.sound told) (c.requires.only told) c.read_tables.ensures.read (c.settle.ensures.moments told) g.met.F.Flash.counts_now g.met.F.Flash.as_read in
     let it = c.if-not-is_card.false in
-    let card = (c.is_card.ensures (load_page pages) (has_pages (stored pages))).0 (cc it) in
+    let card = (c.is_card.ensures (load_page pages) (has_pages (stored_page pages))).0 (cc it) in
     let loads = c.in_ok-raise.ensures.load told ∙ left_load pages (F.pages s2) now in
     let reopens : Reopens pages card.said = record { sound = c.requires.sound told; holds = record { layout = c.in_ok-layout.layout; tables = tables; held = c.in_ok-layout.ensures.held told; card = card.of } } in (
       card.said,

@@ -2,7 +2,7 @@ use Rattle.std.proofs.Common.{◌≡◌, ◌<◌, ◌++◌, ℕ, List, Option, R
 use Rattle.std.specs.Prelude.{All, IfErr, IsErrAnd}
 use Rattle.std.specs.Vec.{with_items}
 use Rattle.std.proofs.lemmas.List.{take-append-le, take_all}
-use Rattle.card_types.specs.Represents.{used, held}
+use Rattle.card_types.specs.Represents.{things_in, thing_in}
 use Rattle.card_types.specs.declared.limits.TheConstants.{ENTRIES, FILES, KEYS, OBJECTS}
 use Rattle.card_types.specs.declared.tables.Tables.{Tables}
 use Rattle.flash_core.specs.declared.flash.Flash.{Ghosts as Flash}
@@ -42,7 +42,7 @@ refused device old mid now read holds first size count all items is are result g
     handed_on (SlotsFail device.tells (device.faults old.flash) now (NoTables (store_page (device.pages old.flash)))) result given same
     (fails_later device.tells (device.faults old.flash) (device.faults mid.flash) now (BadSlot holds first size count (device.pages mid.flash)) (NoTables (store_page (device.pages old.flash))) read.later
     (λ told bad layout t held_all.
-    bad.2 (held (items t) bad.0) (subst (λ pages. holds (slot_from (store_page pages) first size bad.0) (held (items t) bad.0)) (sym (read.seen told)) (are layout t held_all bad.0 (omega (arith, bad.1, is)))))
+    bad.2 (thing_in (items t) bad.0) (subst (λ pages. holds (slot_from (store_page pages) first size bad.0) (thing_in (items t) bad.0)) (sym (read.seen told)) (are layout t held_all bad.0 (omega (arith, bad.1, is)))))
     given why)
 
 -- the slots in the place of a table's
@@ -102,7 +102,7 @@ returns-clause-entries g c =
     let before = c.args.tables.now in
     let long : length c.read_slots.new.slots ≡ length before.entries.items = c.read_slots.auto.slots ∙ ap length c.deref_mut.ensures.value in
     let are : take before.entries.len (c.read_slots.new.slots ++ drop (length c.read_slots.new.slots) before.entries.items) ≡ c.read_slots.new.slots = filled before.entries.len before.entries.items c.read_slots.new.slots before.entries.ok.0 long in
-    subst (λ slots. All HasThreeBytes (used slots)) (sym are) c.in_ok-read_slots.ensures.read_each
+    subst (λ slots. All HasThreeBytes (things_in slots)) (sym are) c.in_ok-read_slots.ensures.read_each
 
 pub returns-then-not-fits_layout-clause-err : goal.returns-then-not-fits_layout-clause-err
 returns-then-not-fits_layout-clause-err g c told layout t held_all =

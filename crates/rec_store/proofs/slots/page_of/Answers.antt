@@ -1,7 +1,7 @@
 use Rattle.std.proofs.Common.{◌≡◌, ◌+◌, ◌*◌, ◌/◌, below_more, ap, sym, subst, arith}
-use Rattle.card_types.specs.Represents.{held}
+use Rattle.card_types.specs.Represents.{thing_in}
 use Rattle.rec_store.specs.Places.{slot_at}
-use Rattle.rec_store.specs.Slot.{Holds}
+use Rattle.rec_store.specs.Slot.{SlotHolds}
 use Rattle.rec_store.proofs.slots.page_of.Goals as goal
 
 pub loop-place-preserved : goal.loop-place-preserved
@@ -11,10 +11,10 @@ loop-place-preserved g c =
     let each : 256 / c.SIZE-each.result ≡ 256 / size = ap (λ n. 256 / n) c.SIZE-each.ensures in
     let same : c.args.number * (256 / c.SIZE-each.result) + c.loop-place.place ≡ c.args.number * (256 / size) + c.loop-place.place = ap (λ n. c.args.number * n + c.loop-place.place) each in
     let written = c.write_held.ensures in
-    below_more (λ place. Holds g.T.Slot.is_in (slot_at c.write_held.new.bytes size place) (held slots (c.args.number * (256 / size) + place))) c.loop-place.place
-    (λ place lt. subst (λ bytes. Holds g.T.Slot.is_in bytes (held slots (c.args.number * (256 / size) + place)))
+    below_more (λ place. SlotHolds g.T.Slot.is_in (slot_at c.write_held.new.bytes size place) (thing_in slots (c.args.number * (256 / size) + place))) c.loop-place.place
+    (λ place lt. subst (λ bytes. SlotHolds g.T.Slot.is_in bytes (thing_in slots (c.args.number * (256 / size) + place)))
     (sym (written.others place (omega (arith, lt, c.loop-place-test.true, each)) (λ is. omega (arith, is, lt)))) (c.loop-place.invariant place lt))
-    (subst (Holds g.T.Slot.is_in (slot_at c.write_held.new.bytes size c.loop-place.place)) (ap (held slots) same) written.put)
+    (subst (SlotHolds g.T.Slot.is_in (slot_at c.write_held.new.bytes size c.loop-place.place)) (ap (thing_in slots) same) written.put)
 
 pub returns : goal.returns
 returns g c place within =

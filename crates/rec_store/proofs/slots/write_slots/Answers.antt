@@ -1,7 +1,7 @@
 use Rattle.std.proofs.Common.{◌≡◌, ◌≢◌, ◌⊎◌, inl, inr, ℕ, ◌+◌, ◌*◌, ◌/◌, ◌%◌, ◌<◌, ap, ◌∙◌, arith}
 use Rattle.rec_store.proofs.Places.{page_of_all, page_within, some_each}
 use Rattle.rec_store.proofs.Written.{held_more}
-use Rattle.rec_store.specs.Slot.{Holds}
+use Rattle.rec_store.specs.Slot.{SlotHolds}
 use Rattle.page_journal.specs.Pages.{IsStorePage}
 use Rattle.page_journal.proofs.PageKinds.{AreWithinStore, IsPastStore}
 use Rattle.rec_store.proofs.slots.write_slots.Goals as goal
@@ -33,7 +33,7 @@ loop-number-preserved g c =
     let lt = within first size c.SIZE.result number c.args.count c.SIZE.ensures g.met.T.Slot.sizes.1 c.requires.whole c.requires.range (omega (arith, c.loop-number-test.true)) in
     let at : c.FIRST.result + number ≡ first + number = ap (λ n. n + number) c.FIRST.ensures in
     record {
-      held = λ told. held_more (Holds g.T.Slot.is_in) first size number (c.FIRST.result + number) (g.F.Flash.pages c.loop-number.flash) (g.F.Flash.pages c.write.new.self) _ c.args.slots.now at (written.torn told) (written.written told) c.page_of.ensures (was.held told);
+      held = λ told. held_more (SlotHolds g.T.Slot.is_in) first size number (c.FIRST.result + number) (g.F.Flash.pages c.loop-number.flash) (g.F.Flash.pages c.write.new.self) _ c.args.slots.now at (written.torn told) (written.written told) c.page_of.ensures (was.held told);
       others = λ told page out. (written.torn told).others page (another page first number (c.FIRST.result + number) at lt out) ∙ was.others told page out;
       faults = written.cause.ok ∙ was.faults;
     }

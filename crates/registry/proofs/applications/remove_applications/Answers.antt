@@ -1,5 +1,5 @@
 use Rattle.std.proofs.Common.{ap}
-use Rattle.card_types.specs.Represents.{held}
+use Rattle.card_types.specs.Represents.{thing_in}
 use Rattle.registry.specs.TableLists.{TableLists}
 use Rattle.registry.proofs.Replaced.{thing_of}
 use Rattle.registry.proofs.Unloaded.{applications_removed, unloaded}
@@ -19,7 +19,7 @@ returns-clause-slots g c =
 pub returns-clause-said : goal.returns-clause-said
 returns-clause-said g c page said says well =
     let before = c.args.records.now.tables in
-    let loaded = thing_of (held before.files.items c.args.file) c.requires.slot in
+    let loaded = thing_of (thing_in before.files.items c.args.file) c.requires.slot in
     applications_removed page before c.free_owned.new.records.tables said says well c.args.file loaded.0 loaded.1 c.requires.other (returns-clause-slots g c)
 
 pub returns-clause-unloaded : goal.returns-clause-unloaded

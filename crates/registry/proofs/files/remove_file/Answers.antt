@@ -1,4 +1,4 @@
-use Rattle.card_types.specs.Represents.{held}
+use Rattle.card_types.specs.Represents.{thing_in}
 use Rattle.rec_store.specs.Places.{file_page}
 use Rattle.registry.proofs.Frames.{frame_alone, keeps_alone}
 use Rattle.registry.proofs.Replaced.{file_removed, thing_of}
@@ -11,7 +11,7 @@ pub returns-clause-said : goal.returns-clause-said
 returns-clause-said g c page said says =
     let slot = c.args.slot in
     let before = c.args.records.now.tables in
-    let file = thing_of (held before.files.items slot) c.requires.slot in
+    let file = thing_of (thing_in before.files.items slot) c.requires.slot in
     file_removed page before c.set_file.new.self.tables said says slot file.0 file.1 c.requires.unloaded c.set_file.ensures.tables
 
 pub returns-clause-room : goal.returns-clause-room

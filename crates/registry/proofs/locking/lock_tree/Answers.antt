@@ -1,13 +1,13 @@
 use Rattle.std.proofs.Common.{◌≡◌, inl, inr, ◌<◌, true, List, Option, length, ap, sym, subst, ◌∙◌, arith}
 use Rattle.std.proofs.lemmas.List.{length-set}
-use Rattle.card_types.specs.Represents.{held}
+use Rattle.card_types.specs.Represents.{thing_in}
 use Rattle.card_types.specs.declared.limits.TheConstants.{ENTRIES}
 use Rattle.card_types.specs.declared.tables.Entry.{Entry}
 use Rattle.card_types.specs.declared.tables.Tables.{Tables}
 use Rattle.domain_tree.specs.Slots.{IsFreeOfLoops}
 use Rattle.rec_store.specs.Places.{entry_page}
 use Rattle.registry.specs.Pages.{entry_pages}
-use Rattle.registry.specs.Tree.{IsInTree, LocksTree}
+use Rattle.registry.specs.Tree.{IsSlotInTree, LocksTree}
 use Rattle.registry.proofs.Frames.{keeps_on, still_room}
 use Rattle.registry.proofs.Locked.{says_locked}
 use Rattle.registry.proofs.Marking.{all_inside, all_outside, marked_staged, marked_too, passed}
@@ -44,8 +44,8 @@ loop-slot-preserved g c =
     elim c.if-is_in_tree.branch [
       | then-is_in_tree w ↦
           (let set = w.lock_slot.ensures in
-          let there : IsInTree slots domain slot = subst (λ (s : List (Option Entry)). IsInTree s domain slot) given (c.is_in_tree.ensures.0 w.if-is_in_tree.true) in
-          let of_tree : IsInTree start domain slot = in_tree_still start slots before.marked.steps domain slot there in
+          let there : IsSlotInTree slots domain slot = subst (λ (s : List (Option Entry)). IsSlotInTree s domain slot) given (c.is_in_tree.ensures.0 w.if-is_in_tree.true) in
+          let of_tree : IsSlotInTree start domain slot = in_tree_still start slots before.marked.steps domain slot there in
           let after = w.lock_slot.new.records.tables.entries.items in
           rw w.records-is (record {
             same = record {
@@ -62,9 +62,9 @@ loop-slot-preserved g c =
             room = keeps_on entry_pages first.staged loop.staged w.lock_slot.new.records.staged before.room set.room;
           }))
       | else-is_in_tree w ↦
-          (let out : IsInTree start domain slot → ⊥ = λ there.
-          (let here : IsInTree slots domain slot = in_tree_still slots start (λ k. sym (before.marked.steps k)) domain slot there in
-          let is = c.is_in_tree.ensures.1 (subst (λ (s : List (Option Entry)). IsInTree s domain slot) (sym given) here) in
+          (let out : IsSlotInTree start domain slot → ⊥ = λ there.
+          (let here : IsSlotInTree slots domain slot = in_tree_still slots start (λ k. sym (before.marked.steps k)) domain slot there in
+          let is = c.is_in_tree.ensures.1 (subst (λ (s : List (Option Entry)). IsSlotInTree s domain slot) (sym given) here) in
           let is_not = w.if-is_in_tree.false in
           cc) in
           rw w.records-is (record {
@@ -83,7 +83,7 @@ returns-clause-slots g c =
     let before = c.loop-slot.invariant in
     let start = first.entries.items in
     let slots = c.loop-slot.records.tables.entries.items in
-    let top = thing_of (held start domain) c.requires.slot in
+    let top = thing_of (thing_in start domain) c.requires.slot in
     let all : length start ≡ c.loop-slot.slot = omega (arith, before.all (omega (arith, c.loop-slot-test.false)), before.marked.long, c.loop-slot-test.false) in
     record {
       life = before.same.life;
@@ -100,7 +100,7 @@ returns-clause-said g c page said says well =
     let domain = c.args.domain in
     let first = c.args.records.now.tables in
     let last = c.loop-slot.records.tables in
-    let top = thing_of (held first.entries.items domain) c.requires.slot in
+    let top = thing_of (thing_in first.entries.items domain) c.requires.slot in
     let locks : LocksTree first last domain c.args.locked = returns-clause-slots g c in
     says_locked page first last said says well domain top.0 top.1 c.args.locked locks c.loop-slot.invariant.marked.long
 

@@ -1,8 +1,8 @@
 use Rattle.std.proofs.Common.{◌≡◌, ◌<◌, List, Option, None, length, refl, ap, sym, subst, ◌∙◌, arith}
 use Rattle.std.specs.Prelude.{map}
 use Rattle.std.proofs.lemmas.List.{length-set}
-use Rattle.card_types.specs.Represents.{held}
-use Rattle.registry.specs.Removing.{freed, is_owned}
+use Rattle.card_types.specs.Represents.{thing_in}
+use Rattle.registry.specs.Removing.{is_owned, slot_without}
 use Rattle.registry.proofs.Frames.{keeps_on, still_room}
 use Rattle.card_types.proofs.ChangedSlot.{gone_more, gone_set}
 use Rattle.registry.proofs.Freed.{freed_after, freed_differs, none_freed, rest_set}
@@ -23,8 +23,8 @@ loop-slot-preserved g c =
     let before = c.loop-slot.invariant in
     let start = kind.slots first.tables in
     let slots = kind.slots loop.tables in
-    let here : c.is_of.result ≡ is_owned kind.owner owner (held slots slot) =
-    subst (λ (s : List (Option g.row.T.Denot)). c.is_of.result ≡ is_owned kind.owner owner (held s slot)) c.slots.ensures.slots c.is_of.ensures in
+    let here : c.is_of.result ≡ is_owned kind.owner owner (thing_in slots slot) =
+    subst (λ (s : List (Option g.row.T.Denot)). c.is_of.result ≡ is_owned kind.owner owner (thing_in s slot)) c.slots.ensures.slots c.is_of.ensures in
     let all : length slots ≡ kind.COUNT = ap (λ (s : List (Option g.row.T.Denot)). length s) (sym c.slots.ensures.slots) ∙ c.slots.ensures.count in
     let within : slot < length slots = omega (arith, all, c.loop-slot-test.true, c.COUNT-slot-end.ensures) in
     elim c.if-is_of.branch [
@@ -39,8 +39,8 @@ loop-slot-preserved g c =
             staged = set_staged kind.page first.staged loop.staged start slots slot before.staged (kind.slots w.free.new.records.tables) None w.free.new.records.staged put set.staged differs;
             room = keeps_on kind.pages first.staged loop.staged w.free.new.records.staged before.room set.room;
             all = λ _. ap (λ (s : List (Option g.row.T.Denot)). length s) put ∙ length-set slots slot _ ∙ all;
-            left = ap (λ (s : List (Option g.row.T.Denot)). map (freed kind.owner owner) s) put ∙ freed_after kind.owner owner slots slot goes ∙ before.left;
-            after = λ k high. ap (λ (s : List (Option g.row.T.Denot)). held s k) put ∙ rest_set slots start slot before.after k high;
+            left = ap (λ (s : List (Option g.row.T.Denot)). map (slot_without kind.owner owner) s) put ∙ freed_after kind.owner owner slots slot goes ∙ before.left;
+            after = λ k high. ap (λ (s : List (Option g.row.T.Denot)). thing_in s k) put ∙ rest_set slots start slot before.after k high;
             gone = rw put (gone_set (is_owned kind.owner owner) refl slots slot before.gone within);
           }))
       | else-is_of w ↦

@@ -1,8 +1,8 @@
 use Rattle.std.proofs.Common.{◌≡◌, ℕ, ◌<◌, false, length}
 use Rattle.std.specs.Prelude.{map}
-use Rattle.card_types.specs.Represents.{held}
+use Rattle.card_types.specs.Represents.{thing_in}
 use Rattle.registry.specs.Pages.{KeepsRoom}
-use Rattle.registry.specs.Removing.{freed, is_owned}
+use Rattle.registry.specs.Removing.{is_owned, slot_without}
 use Rattle.registry.proofs.Staging.{IsStaged}
 use Rattle.registry.proofs.owned.free_owned.Given as goal
 
@@ -17,7 +17,7 @@ invariant-loop-slot g l =
       staged : IsStaged kind.page l.fn.records.staged l.records.staged start slots l.slot;
       room : KeepsRoom kind.pages l.fn.records.staged l.records.staged;
       all : 0 < l.slot → length slots ≡ kind.COUNT;
-      left : map (freed kind.owner l.owner) slots ≡ map (freed kind.owner l.owner) start;
-      after : (k : ℕ) → (k < l.slot → ⊥) → held slots k ≡ held start k;
-      gone : (k : ℕ) → k < l.slot → is_owned kind.owner l.owner (held slots k) ≡ false;
+      left : map (slot_without kind.owner l.owner) slots ≡ map (slot_without kind.owner l.owner) start;
+      after : (k : ℕ) → (k < l.slot → ⊥) → thing_in slots k ≡ thing_in start k;
+      gone : (k : ℕ) → k < l.slot → is_owned kind.owner l.owner (thing_in slots k) ≡ false;
     }

@@ -2,8 +2,8 @@ use Rattle.std.proofs.Common.{◌≡◌, ℕ, length, Option, None, Some, subst,
 use Rattle.std.specs.Prelude.{IsErr}
 use Rattle.apdu_core.specs.Apdu.{Short, apdu_of}
 use Rattle.scp03_card.specs.Session.{Session}
-use Rattle.scp03_host.specs.Wrapped.{having_sent, room_for, wrapped}
-use Rattle.script_lines.specs.Channel.{number_of}
+use Rattle.scp03_host.specs.Wrapped.{having_sent, room_for, wrapped_command}
+use Rattle.script_lines.specs.Channel.{channel_number}
 use Rattle.script_tool.specs.Host.{own_session}
 use Rattle.script_tool.specs.InSession.{protecting, with_some}
 use Rattle.script_tool.specs.Kept.{MayBeSession, RepresentsHost, kept_on}
@@ -62,8 +62,8 @@ returns-clause-goes_on g c whole rest represents = by (own_session whole) (own_k
         (let command = apdu_of c.args.command.now in
         let no : IsErr c.wrap.result → ⊥ = λ e. not_refused c.wrap.result c.in_default.is e in
         let fits = fits_room (IsErr c.wrap.result) (room_for kept.level) (length command.body) (c.wrap.ensures.too_long kept may) no in
-        let short = subst (λ (n : ℕ). Short (wrapped kept command n) c.wrap.new.out.items) (ap number_of represents.channel) (c.in_default.ensures.sent kept may) in
-        let sent = spoiled_sent kept command (number_of whole.channel) c.args.bad c.wrap.new.out.items c.spoil.new.command.items short c.spoil.ensures in
+        let short = subst (λ (n : ℕ). Short (wrapped_command kept command n) c.wrap.new.out.items) (ap channel_number represents.channel) (c.in_default.ensures.sent kept may) in
+        let sent = spoiled_sent kept command (channel_number whole.channel) c.args.bad c.wrap.new.out.items c.spoil.new.command.items short c.spoil.ensures in
         let stands = own_changed c.args.host.now whole c.wrap.new.self (kept_on c.args.host.now.channel c.wrap.new.self) (Some (having_sent kept command))
         represents c.wrap.ensures.others (c.in_default.ensures.accepted kept may) in
         subst (λ (t : Talk). Continues g.L.CardLink c.args.link.now c.exchange.new.link t rest c.exchange.new.host c.exchange.result)

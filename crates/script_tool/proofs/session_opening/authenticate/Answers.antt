@@ -1,8 +1,8 @@
 use Rattle.std.proofs.Common.{sym, subst}
 use Rattle.script_tool.proofs.Opened.{accepted_played, others_played, refused_played}
-use Rattle.script_tool.specs.InPlain.{in_plain}
+use Rattle.script_tool.specs.InPlain.{send_in_plain}
 use Rattle.script_tool.specs.Kept.{printed_of}
-use Rattle.script_tool.specs.Opening.{authenticated}
+use Rattle.script_tool.specs.Opening.{after_authenticate}
 use Rattle.script_tool.specs.Played.{ContinuesWith, IsPlayed}
 use Rattle.script_tool.specs.Printed.{Opened}
 use Rattle.script_tool.specs.declared.host_state.HostState.{HostState}
@@ -12,8 +12,8 @@ use Rattle.script_tool.proofs.session_opening.authenticate.Goals as goal
 
 pub returns-after-eq-clause-played : goal.returns-after-eq-clause-played
 returns-after-eq-clause-played g c whole o offer represents session =
-    let rest = authenticated o offer c.args.counter in
-    let talk = in_plain whole c.args.wire.now.sent.items rest in
+    let rest = after_authenticate o offer c.args.counter in
+    let talk = send_in_plain whole c.args.wire.now.sent.items rest in
     let x = subst (λ (p : Printout). ContinuesWith g.L.CardLink c.args.link.now c.send_plain.new.link talk rest c.args.host.now (printed_of p)) c.in-Reply.is
     (c.in_ok-other.ensures.goes_on c.args.host.now whole rest represents) in
     let status = c.in-Reply.status.0 in
@@ -32,8 +32,8 @@ returns-after-eq-clause-played g c whole o offer represents session =
 pub returns-in_default : goal.returns-in_default
 returns-in_default g c = record {
   played = λ whole o offer represents session.
-      (let rest = authenticated o offer c.args.counter in
-      others_played g.L.CardLink c.args.link.now c.send_plain.new.link (in_plain whole c.args.wire.now.sent.items rest) rest c.args.host.now c.in_ok-other.other
+      (let rest = after_authenticate o offer c.args.counter in
+      others_played g.L.CardLink c.args.link.now c.send_plain.new.link (send_in_plain whole c.args.wire.now.sent.items rest) rest c.args.host.now c.in_ok-other.other
       c.in_default.not-Reply (c.in_ok-other.ensures.goes_on c.args.host.now whole rest represents));
   up = c.in_ok-other.ensures.up;
   cause = c.in_ok-other.ensures.cause;

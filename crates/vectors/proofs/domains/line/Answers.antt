@@ -1,10 +1,10 @@
 use Rattle.std.proofs.Common.{◌≡◌, ℕ, zero, suc, [], ◌∷◌, None, Some, replicate, refl, ap, arith}
-use Rattle.card_types.specs.Represents.{held}
+use Rattle.card_types.specs.Represents.{thing_in}
 use Rattle.card_types.specs.declared.tables.Entry.{Entry}
 use Rattle.domain_tree.specs.Slots.{IsFreeOfLoops}
 use Rattle.vectors.proofs.domains.line.Goals as goal
 
-none_held : {T : Type 0} (count slot : ℕ) (thing : T) → held (replicate count None) slot ≡ Some thing → ⊥
+none_held : {T : Type 0} (count slot : ℕ) (thing : T) → thing_in (replicate count None) slot ≡ Some thing → ⊥
 none_held zero slot thing at = cc
 none_held (suc count) zero thing at = cc
 none_held (suc count) (suc slot) thing at = none_held count slot thing at

@@ -2,7 +2,7 @@ use Rattle.std.proofs.Common.{◌<◌, Some, ap, sym, subst, ◌∙◌}
 use Rattle.std.specs.Option.{option_map}
 use Rattle.access_matrix.specs.Lines.{line_as}
 use Rattle.access_matrix.specs.Next.{IsPast, place_order}
-use Rattle.access_matrix.specs.Rights.{IsNextRight, place_of}
+use Rattle.access_matrix.specs.Rights.{IsNextRight, right_key}
 use Rattle.access_matrix.specs.Text.{line_of}
 use Rattle.access_matrix.specs.Walks.{rights_left}
 use Rattle.access_matrix.specs.declared.deed.Right.{Right}
@@ -39,4 +39,4 @@ returns-in-Some-clause-fewer c is =
     let next = rw c.as_ref.ensures.value at (c.in-Some.ensures.some order.page order.said order.says) in
     subst (λ (right : Right). rights_left tables (Some right) < rights_left tables last) (sym c.right_of-right.ensures)
     (fewer_left tables last c.in-Some.candidate next.has.0.0
-    (subst (IsPast place_order (option_map place_of last)) (sym next.has.0.1) next.past))
+    (subst (IsPast place_order (option_map right_key last)) (sym next.has.0.1) next.past))

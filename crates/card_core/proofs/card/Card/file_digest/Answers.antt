@@ -1,6 +1,6 @@
 use Rattle.std.proofs.Common.{◌≡◌, Some, sym, ap, subst, ◌∙◌}
 use Rattle.std.specs.Prelude.{IfSome}
-use Rattle.card_core.specs.Prelude.{AreCards, IsInLoadPages, RepresentsSome, held, kept_of, load_page, stored}
+use Rattle.card_core.specs.Prelude.{AreCards, IsInLoadPages, RepresentsSome, kept_of, load_page, stored_page, thing_in}
 use Rattle.rec_store.proofs.Reopening.{has_pages}
 use Rattle.rec_store.proofs.Roomy.{of_slot}
 use Rattle.card_core.proofs.Over.{reading, spare_over}
@@ -10,10 +10,10 @@ pub digest_of-requires-clause-file : goal.digest_of-requires-clause-file
 digest_of-requires-clause-file g c =
     let pages = g.F.Flash.pages c.self.inside.records.flash in
     let files = c.self.inside.records.tables.files.items in
-    let all = (c.self.invariant.0 (load_page pages) (has_pages (stored pages))).of.files in
+    let all = (c.self.invariant.0 (load_page pages) (has_pages (stored_page pages))).of.files in
     let there = rw c.unwrap-file.ensures at c.in_slot.ensures in
     let same : c.deref.result.now ≡ files = c.deref.ensures.value ∙ ap (λ t. t.files.items) c.tables.ensures.tables in
-    let at : held files c.args.slot ≡ Some c.unwrap-file.result.now = subst (λ slots. held slots c.args.slot ≡ Some c.unwrap-file.result.now) same there in
+    let at : thing_in files c.args.slot ≡ Some c.unwrap-file.result.now = subst (λ slots. thing_in slots c.args.slot ≡ Some c.unwrap-file.result.now) same there in
     subst (λ file. IfSome file IsInLoadPages) at (of_slot IsInLoadPages files c.args.slot all)
 
 pub invariant_of-self : goal.invariant_of-self

@@ -2,7 +2,7 @@ use Rattle.std.proofs.Common.{refl, sym, ap, subst, ◌∙◌}
 use Rattle.policy_machine.proofs.NumbersRisen.{numbers_rise}
 use Rattle.policy_machine.proofs.Opened.{changes_are_opened}
 use Rattle.policy_machine.proofs.TreesStayed.{trees_stay}
-use Rattle.card_core.specs.Prelude.{AreCards, Changes, loaded}
+use Rattle.card_core.specs.Prelude.{AreCards, Changes, pages_after}
 use Rattle.load_session.proofs.Loading.{pages_stay_whole}
 use Rattle.card_core.proofs.LoadsKept.{free_spare}
 use Rattle.card_core.proofs.Over.{committed, registry_told, served_keeps, served_load, served_says}
@@ -26,7 +26,7 @@ invariant_of-self g c = (
         let writes = c.serve-rule.new.channels.loading.writes.items in
         let served = c.serve-rule.ensures.served some.page some.state some.whole some.shows some.sound in
         record {
-          page = loaded some.page writes;
+          page = pages_after some.page writes;
           whole = pages_stay_whole some.page writes c.serve-rule.ensures.writes.whole some.whole;
           state = served.0;
           shows = rw c.in-Ok.ensures.tables served.1;
@@ -54,11 +54,11 @@ returns-in-Ok-clause-step g c state stands =
       (
         record {
           live = ap (λ view. view.live) c.self.view_is ∙ stands.live;
-          page = loaded stands.page writes;
+          page = pages_after stands.page writes;
           whole = pages_stay_whole stands.page writes rule.ensures.writes.whole stands.whole;
           shows = rw c.in-Ok.ensures.tables served.1;
           sound = served.2;
-          load = λ told. (rw c.deref.ensures.0 at c.in-Ok.ensures.load) told ∙ ap (λ page. loaded page writes) (served_load F card state stands rule.new.records.flash same told);
+          load = λ told. (rw c.deref.ensures.0 at c.in-Ok.ensures.load) told ∙ ap (λ page. pages_after page writes) (served_load F card state stands rule.new.records.flash same told);
           keeps = λ told. (rw c.deref.ensures.0 at c.in-Ok.ensures.keeps) told state.registry served.0.registry (served_keeps F card state stands rule.new.records.flash same told)
               (served_says F card state stands rule.new.records.flash same writes rule.new.records.tables served.0.registry says told);
         },

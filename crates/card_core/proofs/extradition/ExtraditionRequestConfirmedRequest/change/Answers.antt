@@ -5,7 +5,7 @@ use Rattle.card_core.proofs.EntryCards.{aids_kept, moved_cards, moving_keeps}
 use Rattle.card_core.proofs.FreePages.{moved_free}
 use Rattle.card_core.proofs.SomeAdmitted.{of_card, some_acts, some_admitted}
 use Rattle.card_core.proofs.StatusChanged.{used_by_name}
-use Rattle.card_core.specs.Prelude.{ActsIn, Admitted, BecomesAsAsked, FindsMove, IsExtraditionOf, Represents, Well, domain_aid, domain_of_thing, held, managed_extradition, moved}
+use Rattle.card_core.specs.Prelude.{ActsIn, Admitted, BecomesAsAsked, FindsMove, IsExtraditionOf, Represents, Well, domain_aid, domain_of_thing, managed_extradition, thing_in, with_thing_in_domain}
 use Rattle.policy_machine.proofs.ExtraditionLaws.{moved_of_card}
 use Rattle.card_types.proofs.Domains.{domain_aid_is}
 use Rattle.card_types.specs.declared.tables.Entry.{Entry}
@@ -17,8 +17,8 @@ use Rattle.card_core.proofs.extradition.ExtraditionRequestConfirmedRequest.chang
 -- the thing is in its new domain
 extradited : (page : ℕ → List ℕ) (before after : Tables) (domain : ℕ) (admitted : Admitted) → ActsIn page before domain admitted
     → (request : ExtraditionRequest) → IsExtraditionOf request admitted.command → (found : Extradition) → FindsMove request before found
-    → (from : Entry) → held before.entries.items found.from ≡ Some from
-    → Represents page after (moved admitted.at.registry request.aid (domain_aid before.entries.items found.to))
+    → (from : Entry) → thing_in before.entries.items found.from ≡ Some from
+    → Represents page after (with_thing_in_domain admitted.at.registry request.aid (domain_aid before.entries.items found.to))
     → BecomesAsAsked managed_extradition admitted page after (from.aid ∷ request.aid ∷ request.to ∷ [])
 extradited page before after domain admitted acts request is found finds from at says =
     let into = ap (λ (o : Option (List ℕ)). unwrap_or o []) finds.to ∙ is.to in
@@ -26,10 +26,10 @@ extradited page before after domain admitted acts request is found finds from at
     record {
       asked = is.given;
       asks = is.asks;
-      changed = moved admitted.at.registry is.given.third is.given.first;
+      changed = with_thing_in_domain admitted.at.registry is.given.third is.given.first;
       becomes = refl;
-      says = subst (λ (name : List ℕ). Represents page after (moved admitted.at.registry is.given.third name)) into
-          (subst (λ (name : List ℕ). Represents page after (moved admitted.at.registry name (domain_aid before.entries.items found.to))) is.aid says);
+      says = subst (λ (name : List ℕ). Represents page after (with_thing_in_domain admitted.at.registry is.given.third name)) into
+          (subst (λ (name : List ℕ). Represents page after (with_thing_in_domain admitted.at.registry name (domain_aid before.entries.items found.to))) is.aid says);
       about = λ i. old i ∷ is.aid i ∷ is.to i ∷ [];
     }
 
@@ -53,7 +53,7 @@ returns g c =
     let asked = c.requires.formed in
     let move = c.move_to.ensures in
     let from = c.unwrap.result.now in
-    let at : held before.entries.items found.from ≡ Some from = search rules in
+    let at : thing_in before.entries.items found.from ≡ Some from = search rules in
     let keeps = moving_keeps before after found.thing found.to move.slots in
     record {
       becomes = λ page admitted acts is. subst (BecomesAsAsked managed_extradition admitted page after) (sym c.new.ensures)

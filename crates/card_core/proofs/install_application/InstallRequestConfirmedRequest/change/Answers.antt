@@ -4,7 +4,7 @@ use Rattle.card_core.proofs.Answered.{aids_selected, entry_room, numbers_confirm
 use Rattle.card_core.proofs.EntryCards.{adding_keeps, aids_kept, entry_cards}
 use Rattle.card_core.proofs.FreePages.{files_free}
 use Rattle.card_core.proofs.SomeAdmitted.{domain_named, domain_there, of_card, some_acts, some_admitted, some_load}
-use Rattle.card_core.specs.Prelude.{ActsIn, Admitted, BecomesAsAsked, Entry, IsEntryAdded, IsInstallOf, NoneHas, Registry, Represents, aid_of, entry_made, entry_of, file_aid, held, managed_install, slot_made}
+use Rattle.card_core.specs.Prelude.{ActsIn, Admitted, BecomesAsAsked, Entry, IsEntryAdded, IsInstallOf, NoneHas, Registry, Represents, aid_of, entry_made, entry_of, file_aid, managed_install, slot_made, thing_in}
 use Rattle.card_types.specs.declared.tables.Entry.{Entry as Slot}
 use Rattle.card_types.specs.declared.tables.LoadFile.{LoadFile}
 use Rattle.card_core.proofs.StatusChanged.{named_there}
@@ -40,9 +40,9 @@ place_entry-requires g c =
     let there = domain_there tables.entries.items c.args.acting.now.domain c.requires.domain in
     record {
       live = c.requires.live;
-      domain = subst (λ (entry : Slot). IsSome (held tables.entries.items entry.domain)) (sym c.made.ensures) (subst IsSome (sym there.1) refl);
-      file = subst (λ (entry : Slot). IsSome (held tables.files.items entry.file)) (sym c.made.ensures)
-          (named_there (λ (file : LoadFile). file.aid) (held tables.files.items c.args.file) c.args.self.now.file found.file);
+      domain = subst (λ (entry : Slot). IsSome (thing_in tables.entries.items entry.domain)) (sym c.made.ensures) (subst IsSome (sym there.1) refl);
+      file = subst (λ (entry : Slot). IsSome (thing_in tables.files.items entry.file)) (sym c.made.ensures)
+          (named_there (λ (file : LoadFile). file.aid) (thing_in tables.files.items c.args.file) c.args.self.now.file found.file);
       fresh = subst (λ (entry : Slot). NoneHas tables entry.aid) (sym c.made.ensures) found.free;
       free = found.room;
       room = entry_room c.args.records.now.staged c.requires.clean;

@@ -4,7 +4,7 @@ use Rattle.card_core.proofs.Answered.{aids_selected, entry_room, numbers_confirm
 use Rattle.card_core.proofs.EntryCards.{aids_kept, changing_keeps, entry_cards}
 use Rattle.card_core.proofs.FreePages.{files_free}
 use Rattle.card_core.proofs.SomeAdmitted.{of_card, some_acts, some_admitted}
-use Rattle.card_core.specs.Prelude.{Admitted, BecomesAsAsked, IsInstalledWith, IsSelectableOf, Represents, Well, domain_aid, held, managed_selectable, with_life}
+use Rattle.card_core.specs.Prelude.{Admitted, BecomesAsAsked, IsInstalledWith, IsSelectableOf, Represents, Well, domain_aid, managed_selectable, thing_in, with_life}
 use Rattle.policy_machine.proofs.MakeSelectableLaws.{selectable_life, selectable_of_card}
 use Rattle.card_types.proofs.Domains.{domain_aid_is}
 use Rattle.card_types.specs.declared.tables.Entry.{Entry}
@@ -13,16 +13,16 @@ use Rattle.content_rules.specs.declared.make_selectable.SelectableRequest.{Selec
 use Rattle.card_core.proofs.make_selectable.SelectableRequestConfirmedRequest.change.Goals as goal
 
 -- the entry that was found is just installed, and has the AID that is asked for
-installed_at : (aid : List ℕ) (entries : List (Option Entry)) (slot : ℕ) → IsInstalledWith aid (held entries slot)
-    → (entry : Entry) × (held entries slot ≡ Some entry) × (entry.aid ≡ aid)
-installed_at aid entries slot is = by (held entries slot) refl is
+installed_at : (aid : List ℕ) (entries : List (Option Entry)) (slot : ℕ) → IsInstalledWith aid (thing_in entries slot)
+    → (entry : Entry) × (thing_in entries slot ≡ Some entry) × (entry.aid ≡ aid)
+installed_at aid entries slot is = by (thing_in entries slot) refl is
   where
-    by : (o : Option Entry) → held entries slot ≡ o → IsInstalledWith aid o → (entry : Entry) × (held entries slot ≡ Some entry) × (entry.aid ≡ aid)
+    by : (o : Option Entry) → thing_in entries slot ≡ o → IsInstalledWith aid o → (entry : Entry) × (thing_in entries slot ≡ Some entry) × (entry.aid ≡ aid)
     by None at is = absurd is
     by (Some entry) at is = (entry, at, is.0)
 
 -- the application is selectable
-made_selectable : (page : ℕ → List ℕ) (before after : Tables) (admitted : Admitted) (request : SelectableRequest) → IsSelectableOf request admitted.command → (slot : ℕ) → IsInstalledWith request.aid (held before.entries.items slot)
+made_selectable : (page : ℕ → List ℕ) (before after : Tables) (admitted : Admitted) (request : SelectableRequest) → IsSelectableOf request admitted.command → (slot : ℕ) → IsInstalledWith request.aid (thing_in before.entries.items slot)
     → Represents page after (with_life admitted.at.registry (domain_aid before.entries.items slot) selectable_life) → BecomesAsAsked managed_selectable admitted page after (request.aid ∷ [])
 made_selectable page before after admitted request is slot found says =
     let at = installed_at request.aid before.entries.items slot found in

@@ -1,6 +1,6 @@
 use Rattle.std.proofs.Common.{◌≡◌, [], ◌∷◌, ◌∙◌, None, Some, ap, inl, inr, length, refl, rules, sym, subst}
 use Rattle.card_core.specs.Prelude.{ActsIn, IsInOrder, IsKeyLength, IsRequestOf, IsWellFormed, RepresentsSecureChannel, command_form, key_rules, managed_put_key, secure_channel_for, sent_key, version_rules}
-use Rattle.policy_machine.proofs.FirstJoined.{first_behind, first_within}
+use Rattle.policy_machine.proofs.FirstJoined.{first_after, first_within}
 use Rattle.policy_machine.proofs.PutKeyLaws.{put_judged}
 use Rattle.card_core.specs.declared.put_key.PutKeyRequest.{PutKeyRequest}
 use Rattle.policy_rules.specs.declared.put_key.SealedKey.{SealedKey}
@@ -50,7 +50,7 @@ returns-in_err-judge_put_keys-in-One-clause-done g c page admitted acts says cha
     let before = c.in_ok-judge_put_versions.ensures.passed page admitted c.args.self.now.keys.now (subst (λ t. ActsIn page t c.args.acting.now.domain admitted) (sym c.tables.ensures.tables) acts) request in
     let refused = c.in_err-judge_put_keys-in-One.ensures.refused page admitted c.args.self.now.version
     (subst (λ t. ActsIn page t c.args.acting.now.domain admitted) (sym c.tables-in-One.ensures.tables) acts) request checks in
-    let first = first_behind ((command_form managed_put_key).fails admitted) key_rules version_rules (Some c.in_err-judge_put_keys-in-One.field-0.0) before refused in
+    let first = first_after ((command_form managed_put_key).fails admitted) key_rules version_rules (Some c.in_err-judge_put_keys-in-One.field-0.0) before refused in
     refusal_managed admitted page c.args.records.now.tables c.args.reply.now.items c.from_residual-in_err-judge_put_keys-in-One.result c.in_err-judge_put_keys-in-One.field-0.0
     c.from_residual-in_err-judge_put_keys-in-One.ensures.1
     (put_judged admitted (Some c.in_err-judge_put_keys-in-One.field-0.0) request.form first) c.requires.empty
@@ -130,7 +130,7 @@ returns-in_err-judge_put_keys-in-Three-clause-done g c page admitted acts says c
     let before = c.in_ok-judge_put_versions.ensures.passed page admitted c.args.self.now.keys.now (subst (λ t. ActsIn page t c.args.acting.now.domain admitted) (sym c.tables.ensures.tables) acts) request in
     let refused = c.in_err-judge_put_keys-in-Three.ensures.refused page admitted c.args.self.now.version
     (subst (λ t. ActsIn page t c.args.acting.now.domain admitted) (sym c.tables-in-Three.ensures.tables) acts) request checks in
-    let first = first_behind ((command_form managed_put_key).fails admitted) key_rules version_rules (Some c.in_err-judge_put_keys-in-Three.field-0.0) before refused in
+    let first = first_after ((command_form managed_put_key).fails admitted) key_rules version_rules (Some c.in_err-judge_put_keys-in-Three.field-0.0) before refused in
     refusal_managed admitted page c.args.records.now.tables c.args.reply.now.items c.from_residual-in_err-judge_put_keys-in-Three.result c.in_err-judge_put_keys-in-Three.field-0.0
     c.from_residual-in_err-judge_put_keys-in-Three.ensures.1
     (put_judged admitted (Some c.in_err-judge_put_keys-in-Three.field-0.0) request.form first) c.requires.empty
@@ -157,7 +157,7 @@ returns-in_ok-judge_put_keys-in-One g c =
           c.open_key-key.result.fits (fits_one c.open_key-key.result.fits (sent_key sent) key c.open_key-key.ensures.fits) in
           let versions = c.in_ok-judge_put_versions.ensures.passed page admitted put.keys.now (subst (λ t. ActsIn page t c.args.acting.now.domain admitted) (sym c.tables.ensures.tables) acts) request in
           let passed = c.in_ok-judge_put_keys-in-One.ensures.passed page admitted put.version (subst (λ t. ActsIn page t c.args.acting.now.domain admitted) (sym c.tables-in-One.ensures.tables) acts) request checks in
-          let first = first_behind ((command_form managed_put_key).fails admitted) key_rules version_rules None versions passed in
+          let first = first_after ((command_form managed_put_key).fails admitted) key_rules version_rules None versions passed in
           put_managed before after same.life same.entries same.files same.objects c.args.acting.now.domain put.replaced put.version (key ∷ []) puts lengths (inr (form.new, refl)) judged c.requires.domain
           page admitted acts (One sent) asked brings c.write_check.new.reply.items _ (put_judged admitted None request.form first)
           (body_one put.version (sent_key sent) c.args.reply.now.items c.push.new.self.items c.write_check.new.reply.items c.requires.empty c.push.ensures.items c.write_check.ensures.written) refl);
@@ -201,7 +201,7 @@ returns-in_ok-judge_put_keys-in-Three g c =
           c.all_fit-fit.ensures enc.ensures.fits mac.ensures.fits kek.ensures.fits) in
           let versions = c.in_ok-judge_put_versions.ensures.passed page admitted put.keys.now (subst (λ t. ActsIn page t c.args.acting.now.domain admitted) (sym c.tables.ensures.tables) acts) request in
           let passed = c.in_ok-judge_put_keys-in-Three.ensures.passed page admitted put.version (subst (λ t. ActsIn page t c.args.acting.now.domain admitted) (sym c.tables-in-Three.ensures.tables) acts) request checks in
-          let first = first_behind ((command_form managed_put_key).fails admitted) key_rules version_rules None versions passed in
+          let first = first_after ((command_form managed_put_key).fails admitted) key_rules version_rules None versions passed in
           put_managed before after same.life same.entries same.files same.objects c.args.acting.now.domain put.replaced put.version bytes puts lengths (inl (form.new.0, form.new.1, refl)) judged c.requires.domain
           page admitted acts keys asked brings c.write_check-in-Three-3.new.reply.items _ (put_judged admitted None request.form first)
           (body_three put.version (sent_key one) (sent_key two) (sent_key three) c.args.reply.now.items c.push-in-Three.new.self.items

@@ -1,9 +1,9 @@
 use Rattle.std.proofs.Common.{[], ◌+◌, ◌≤◌, List, None, Some, length, refl, sym, subst, ◌∙◌, rules, ◌≡◌, ℕ, inl, ap}
 use Rattle.std.specs.Prelude.{All}
 use Rattle.std.proofs.lemmas.List.Elements.{All-head}
-use Rattle.card_core.specs.Prelude.{ActsIn, Admitted, Apdu, AreElements, Element, HasObjects, IsArranged, IsInOrder, IsManaged, IsObject, Judges, StoreDataField, TakesCommand, command_form, has_object_in, managed_store_data, new_tags, object_order, object_with, used, with_data, with_objects}
+use Rattle.card_core.specs.Prelude.{ActsIn, Admitted, Apdu, AreElements, Element, HasObjects, IsArranged, IsInOrder, IsManaged, IsObject, Judges, StoreDataField, TakesCommand, command_form, has_object_in, managed_store_data, new_tags, object_order, object_with, things_in, with_data, with_objects}
 use Rattle.card_types.specs.declared.limits.TheConstants.{OBJECTS}
-use Rattle.policy_machine.proofs.StoreDataElements.{elements_behind, none_left}
+use Rattle.policy_machine.proofs.StoreDataElements.{elements_after, none_left}
 use Rattle.card_core.proofs.Answered.{entries_selected}
 use Rattle.card_core.proofs.Cards.{in_order}
 use Rattle.card_core.proofs.FreePages.{files_free}
@@ -63,7 +63,7 @@ put_object-requires g c =
     let formed = c.requires.formed in
     let elements = objects_of c.args.self.now.objects.now formed.0 formed.1.means formed.1.form.2 in
     let behind = c.loop-element.invariant.put elements.0 elements.1 elements.2.each in
-    let next = elements_behind behind.0 element.tag element.value c.in-Ok.after.now c.loop-element.rest.now behind.1 c.in-Ok.ensures.found in
+    let next = elements_after behind.0 element.tag element.value c.in-Ok.after.now c.loop-element.rest.now behind.1 c.in-Ok.ensures.found in
     let slots = c.loop-element.records.tables.objects.items in
     let P = λ (e : Element). IsObject e.tag (length e.value) in
     record {
@@ -71,7 +71,7 @@ put_object-requires g c =
       frames = c.loop-element.invariant.frames;
       size = at_most element.tag (length element.value) (All-head P element next.0 (subst (All P) next.1 behind.2.forms));
       room = room_first slots c.args.acting.now.domain element next.0
-          (subst (λ (es : List Element). length (used slots) + new_tags (has_object_in slots c.args.acting.now.domain) es ≤ OBJECTS) next.1 behind.2.room);
+          (subst (λ (es : List Element). length (things_in slots) + new_tags (has_object_in slots c.args.acting.now.domain) es ≤ OBJECTS) next.1 behind.2.room);
     }
 
 pub loop-element-preserved : goal.loop-element-preserved
@@ -89,7 +89,7 @@ loop-element-preserved g c =
       same = same_after before now after puts.slot (Some (object_with c.args.acting.now.domain element.tag element.value.now)) same puts.set;
       put = λ elements are forms.
           (let behind = c.loop-element.invariant.put elements are forms in
-          let next = elements_behind behind.0 element.tag element.value.now c.in-Ok.after.now c.loop-element.rest.now behind.1 c.in-Ok.ensures.found in (
+          let next = elements_after behind.0 element.tag element.value.now c.in-Ok.after.now c.loop-element.rest.now behind.1 c.in-Ok.ensures.found in (
             next.0,
             next.2,
             put_after before now after c.args.acting.now.domain c.requires.domain same c.tables.ensures.roomy.slots.objects (record { tag = element.tag; value = element.value.now }) puts elements next.0

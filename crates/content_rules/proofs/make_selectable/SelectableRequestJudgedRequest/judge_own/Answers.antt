@@ -1,6 +1,6 @@
 use Rattle.std.proofs.Common.{rules, ◌≡◌, Some, refl}
 use Rattle.std.proofs.lemmas.Bool.{iff_false}
-use Rattle.content_rules.specs.Prelude.{Above, domain_slot, held}
+use Rattle.content_rules.specs.Prelude.{Above, domain_slot, thing_in}
 use Rattle.domain_tree.proofs.AboveNamed.{free_of_loops}
 use Rattle.policy_machine.specs.declared.make_selectable.RuleMS.TheVariants.{MS1, MS2, MS3, MS4, MS5}
 use Rattle.content_rules.proofs.MakeSelectableJudging.{elsewhere_first, other_life_first, others_first, own_passes, unknown_first, unmanaged_first}
@@ -8,8 +8,8 @@ use Rattle.content_rules.proofs.make_selectable.SelectableRequestJudgedRequest.j
 use Rattle.content_rules.proofs.make_selectable.SelectableRequestJudgedRequest.judge_own.Goals.{After-is_just_installed}
 
 -- the entry that is named is in its slot, below the domain
-entry_at : (c : After-is_just_installed) → held c.args.tables.now.entries.items c.in-Some.slot ≡ Some c.unwrap-entry.result.now
-entry_at c = (let there : held c.deref-2.result.now c.in-Some.slot ≡ Some c.unwrap-entry.result.now = search rules in rw c.deref-2.ensures.value at there)
+entry_at : (c : After-is_just_installed) → thing_in c.args.tables.now.entries.items c.in-Some.slot ≡ Some c.unwrap-entry.result.now
+entry_at c = (let there : thing_in c.deref-2.result.now c.in-Some.slot ≡ Some c.unwrap-entry.result.now = search rules in rw c.deref-2.ensures.value at there)
 
 below : (c : After-is_just_installed) → Above (domain_slot c.args.tables.now.entries.items) c.args.domain c.in-Some.slot
 below c = rw c.deref.ensures.value at (c.above.ensures.0 c.if-not-above.false)

@@ -1,7 +1,7 @@
 use Rattle.std.proofs.Common.{◌≡◌, List, length, ap, ◌∙◌, sym, subst, arith}
 use Rattle.std.proofs.lemmas.List.{take_at}
 use Rattle.flash_core.specs.declared.page.Page.{Page}
-use Rattle.flash_core.specs.Replay.{Medium, MayLeave, settled, after_calls}
+use Rattle.flash_core.specs.Replay.{Medium, MayLeave, settled_medium, after_calls}
 use Rattle.flash_core.specs.Memory.{medium, CutBy}
 use Rattle.flash_core.proofs.Steps.{cut_outcome}
 use Rattle.flash_core.proofs.memory.MemFlash.power_cut.Goals as goal
@@ -15,6 +15,6 @@ returns-clause-outcome c =
     let parts : cut ≡ m = λ i. record { seen = c.deref_mut.ensures.value i; kept = c.deref.ensures.value i; written = c.deref-2.ensures.value i } in
     let was : MayLeave m c.cut_pages.new.seen =
     cut_outcome c.args.seed m c.cut_pages.new.seen (omega (arith, i.1, i.2)) (omega (arith, i.1, i.3)) (subst (λ (n : Medium). CutBy c.args.seed n c.cut_pages.new.seen) parts c.cut_pages.ensures) in
-    let fin = ap (λ calls. (after_calls (settled c.copy_from_slice-2.new.self.items) calls).seen) c.clear.ensures.items ∙ (c.copy_from_slice-2.ensures.items ∙ c.deref-4.ensures.value)
+    let fin = ap (λ calls. (after_calls (settled_medium c.copy_from_slice-2.new.self.items) calls).seen) c.clear.ensures.items ∙ (c.copy_from_slice-2.ensures.items ∙ c.deref-4.ensures.value)
     ∙ take_at c.cut_pages.new.seen _ c.self.inside.seen.len (omega (arith, c.cut_pages.ensures.count, ap length c.deref_mut.ensures.value, c.self.inside.seen.ok.0)) in
     subst (λ (pages : List Page). MayLeave (medium c.args.self.now) pages) (sym fin) (subst (λ (n : Medium). MayLeave n c.cut_pages.new.seen) same was)

@@ -1,12 +1,12 @@
 use Rattle.std.proofs.Common.{◌≡◌, ap, ◌∙◌, arith, false, replicate, length, vec_len}
-use Rattle.flash_core.specs.Replay.{Medium, settled, after_call, after_calls}
+use Rattle.flash_core.specs.Replay.{Medium, settled_medium, after_call, after_calls}
 use Rattle.flash_core.proofs.Steps.{after_push, synced}
 use Rattle.flash_core.proofs.memory.MemFlash.take.Goals as goal
 
 pub invariant_of-self-in-Write : goal.invariant_of-self-in-Write
 invariant_of-self-in-Write c =
     let i = c.self.invariant in
-    let start = settled c.self.inside.first.items in (
+    let start = settled_medium c.self.inside.first.items in (
       i.0,
       i.1,
       i.2,
@@ -20,7 +20,7 @@ invariant_of-self-in-Write c =
 pub invariant_of-self-in-Sync : goal.invariant_of-self-in-Sync
 invariant_of-self-in-Sync c =
     let i = c.self.invariant in
-    let start = settled c.self.inside.first.items in
+    let start = settled_medium c.self.inside.first.items in
     let old : Medium = record { seen = c.self.inside.seen.items; kept = c.self.inside.kept.items; written = c.self.inside.written.items } in
     let kept = c.copy_from_slice.ensures.items ∙ c.deref.ensures.value in
     let count : vec_len c.self.inside.written ≡ length c.self.inside.written.items = omega (arith, c.self.inside.written.ok.0) in

@@ -2,9 +2,9 @@ use Rattle.std.proofs.Common.{◌≡◌, ◌⊎◌, ◌+◌, ◌<◌, ◌≤◌,
 use Rattle.std.proofs.lemmas.Bool.{cases_eq}
 use Rattle.std.proofs.lemmas.List.{length-take}
 use Rattle.flash_core.specs.declared.page.Page.{Page}
-use Rattle.flash_core.specs.Memory.{filled}
+use Rattle.flash_core.specs.Memory.{uniform_page}
 use Rattle.frame_pool.specs.declared.pool.Frame.{Frame}
-use Rattle.frame_pool.specs.Staged.{staged, with_bytes_at, AreDistinct}
+use Rattle.frame_pool.specs.Staged.{staged_at, with_bytes_at, AreDistinct}
 use Rattle.frame_pool.specs.Entries.{entries, AreLinked}
 use Rattle.frame_pool.proofs.Places.{NoneBefore, NoneHas, none_staged, none_with, last_get, last_with, found_staged, found_with, distinct_push, entries_push, length_entries, take_push, linked_put}
 use Rattle.frame_pool.proofs.pool.FramePool.place.Goals as goal
@@ -29,14 +29,14 @@ pushed : (items new : List Frame) (len : ℕ) (f : Frame) → len < length items
 pushed items new len f within is = ap (λ l. entries (take (len + 1) l)) is ∙ ap entries (take_push len items f within) ∙ entries_push (take len items) f
 
 abbrev blank : ℕ → ℕ → Frame
-blank number len = record { number = number; next = len + 1; page = filled 0 }
+blank number len = record { number = number; next = len + 1; page = uniform_page 0 }
 
 pub put-requires : goal.put-requires
 put-requires c =
     let items = c.self.inside.frames.items in
     let len = c.self.inside.len in
     let none = none_staged c.args.self.now c.args.page (subst (λ l. NoneHas l c.args.page) c.self.view_is c.in-None.ensures.none) in
-    omega (arith, some_left (staged c.args.self.now c.args.page) (length c.args.self.now) c.requires none, ap length c.self.view_is, length_entries (take len items), length-take len items, c.self.inside.frames.ok.0, c.self.invariant.0, c.self.invariant.2)
+    omega (arith, some_left (staged_at c.args.self.now c.args.page) (length c.args.self.now) c.requires none, ap length c.self.view_is, length_entries (take len items), length-take len items, c.self.inside.frames.ok.0, c.self.invariant.0, c.self.invariant.2)
 
 pub invariant_of-self : goal.invariant_of-self
 invariant_of-self c =
@@ -44,7 +44,7 @@ invariant_of-self c =
     let len = c.self.inside.len in
     let i = c.self.invariant in
     let none = none_staged c.args.self.now c.args.page (subst (λ l. NoneHas l c.args.page) c.self.view_is c.in-None.ensures.none) in
-    let room : len < 30 = omega (arith, some_left (staged c.args.self.now c.args.page) (length c.args.self.now) c.requires none, ap length c.self.view_is, length_entries (take len slots.items), length-take len slots.items, slots.ok.0, i.0, i.2) in
+    let room : len < 30 = omega (arith, some_left (staged_at c.args.self.now c.args.page) (length c.args.self.now) c.requires none, ap length c.self.view_is, length_entries (take len slots.items), length-take len slots.items, slots.ok.0, i.0, i.2) in
     let within : len < length slots.items = omega (arith, room, slots.ok.0, i.0) in
     let f = blank c.args.page len in
     let put = c.put.ensures in
@@ -53,7 +53,7 @@ invariant_of-self c =
       λ k le lt. subst (λ (bits : List Bool). get_or bits k false ≡ true) (sym put.filled) (filled_put slots.filled slots.len len (omega (arith, slots.ok.1, room, i.0)) i.1 k le (omega (arith, lt, places.count))),
       omega (arith, room),
       subst AreLinked (sym put.items) (linked_put slots.items len f refl i.3),
-      subst AreDistinct (sym (pushed slots.items c.put.new.self.items len f within put.items)) (distinct_push (entries (take len slots.items)) c.args.page (filled 0) c.in-None.ensures.none i.4),
+      subst AreDistinct (sym (pushed slots.items c.put.new.self.items len f within put.items)) (distinct_push (entries (take len slots.items)) c.args.page (uniform_page 0) c.in-None.ensures.none i.4),
       i.5 ∙ sym places.start,
       i.6 ∙ sym places.count,
       i.7,
@@ -64,7 +64,7 @@ returns-in-Some-clause-found c =
     let x = c.in-Some.ensures.some.0 in
     let is = subst (λ (l : List (ℕ × Page)). slice_get l c.in-Some.at ≡ Some (c.args.page, x)) c.self.view_is c.in-Some.ensures.some.1 in
     let none = subst (λ l. NoneBefore l c.in-Some.at c.args.page) c.self.view_is c.in-Some.ensures.first in
-    is ∙ ap (λ (o : Option Page). Some (c.args.page, unwrap_or o (filled 0))) (sym (found_staged c.args.self.now c.in-Some.at c.args.page x is none))
+    is ∙ ap (λ (o : Option Page). Some (c.args.page, unwrap_or o (uniform_page 0))) (sym (found_staged c.args.self.now c.in-Some.at c.args.page x is none))
 
 pub returns-in-Some-clause-bytes : goal.returns-in-Some-clause-bytes
 returns-in-Some-clause-bytes c w =
@@ -79,11 +79,11 @@ returns-in-None-clause-found c =
     let len = c.self.inside.len in
     let i = c.self.invariant in
     let none = none_staged c.args.self.now c.args.page (subst (λ l. NoneHas l c.args.page) c.self.view_is c.in-None.ensures.none) in
-    let room : len < 30 = omega (arith, some_left (staged c.args.self.now c.args.page) (length c.args.self.now) c.requires none, ap length c.self.view_is, length_entries (take len slots.items), length-take len slots.items, slots.ok.0, i.0, i.2) in
+    let room : len < 30 = omega (arith, some_left (staged_at c.args.self.now c.args.page) (length c.args.self.now) c.requires none, ap length c.self.view_is, length_entries (take len slots.items), length-take len slots.items, slots.ok.0, i.0, i.2) in
     let within : len < length slots.items = omega (arith, room, slots.ok.0, i.0) in
     let place : len ≡ length (entries (take len slots.items)) = omega (arith, length_entries (take len slots.items), length-take len slots.items, within) in
-    ap (λ l. slice_get l len) (pushed slots.items c.put.new.self.items len (blank c.args.page len) within c.put.ensures.items) ∙ ap (slice_get (entries (take len slots.items) ++ (c.args.page, filled 0) ∷ [])) place ∙ last_get (entries (take len slots.items)) (c.args.page, filled 0)
-    ∙ ap (λ (o : Option Page). Some (c.args.page, unwrap_or o (filled 0))) (sym none)
+    ap (λ l. slice_get l len) (pushed slots.items c.put.new.self.items len (blank c.args.page len) within c.put.ensures.items) ∙ ap (slice_get (entries (take len slots.items) ++ (c.args.page, uniform_page 0) ∷ [])) place ∙ last_get (entries (take len slots.items)) (c.args.page, uniform_page 0)
+    ∙ ap (λ (o : Option Page). Some (c.args.page, unwrap_or o (uniform_page 0))) (sym none)
 
 pub returns-in-None-clause-bytes : goal.returns-in-None-clause-bytes
 returns-in-None-clause-bytes c w =
@@ -92,8 +92,8 @@ returns-in-None-clause-bytes c w =
     let i = c.self.invariant in
     let has = subst (λ l. NoneHas l c.args.page) c.self.view_is c.in-None.ensures.none in
     let none = none_staged c.args.self.now c.args.page has in
-    let room : len < 30 = omega (arith, some_left (staged c.args.self.now c.args.page) (length c.args.self.now) c.requires none, ap length c.self.view_is, length_entries (take len slots.items), length-take len slots.items, slots.ok.0, i.0, i.2) in
+    let room : len < 30 = omega (arith, some_left (staged_at c.args.self.now c.args.page) (length c.args.self.now) c.requires none, ap length c.self.view_is, length_entries (take len slots.items), length-take len slots.items, slots.ok.0, i.0, i.2) in
     let within : len < length slots.items = omega (arith, room, slots.ok.0, i.0) in
     let place : len ≡ length (entries (take len slots.items)) = omega (arith, length_entries (take len slots.items), length-take len slots.items, within) in
-    at_end _ (entries (take len slots.items) ++ (c.args.page, filled 0) ∷ []) _ (length (entries (take len slots.items))) w (pushed slots.items c.put.new.self.items len (blank c.args.page len) within c.put.ensures.items) place
-    ∙ last_with (entries (take len slots.items)) c.args.page (filled 0) w ∙ ap (λ (l : List (ℕ × Page)). l ++ (c.args.page, w) ∷ []) c.self.view_is ∙ sym (none_with c.args.self.now c.args.page w has)
+    at_end _ (entries (take len slots.items) ++ (c.args.page, uniform_page 0) ∷ []) _ (length (entries (take len slots.items))) w (pushed slots.items c.put.new.self.items len (blank c.args.page len) within c.put.ensures.items) place
+    ∙ last_with (entries (take len slots.items)) c.args.page (uniform_page 0) w ∙ ap (λ (l : List (ℕ × Page)). l ++ (c.args.page, w) ∷ []) c.self.view_is ∙ sym (none_with c.args.self.now c.args.page w has)

@@ -2,7 +2,7 @@ use Rattle.std.proofs.Common.{◌≡◌, ℕ, List, ap, subst, ◌∙◌, rules}
 use Rattle.std.specs.Prelude.{Contains}
 use Rattle.load_session.proofs.Loading.{loaded_more, taken_next, written_apart, written_here}
 use Rattle.load_session.proofs.PagesKept.{bytes_next, own_next}
-use Rattle.load_session.specs.Prelude.{IsWhole, loaded, padded}
+use Rattle.load_session.specs.Prelude.{IsWholePage, padded_page, pages_after}
 use Rattle.load_session.specs.declared.load_write.LoadWrite.{LoadWrite}
 use Rattle.load_session.proofs.paged.PagedBytes.write_rest.Goals as goal
 
@@ -22,16 +22,16 @@ returns-clause-own c =
 pub returns-clause-bytes : goal.returns-clause-bytes
 returns-clause-bytes c page =
     let write : LoadWrite = the_write c in
-    let before = loaded page c.args.writes.now.items in
-    let after = loaded page c.push.new.self.items in
-    let now : after ≡ _ = ap (loaded page) c.push.ensures.items ∙ loaded_more page c.args.writes.now.items write in
+    let before = pages_after page c.args.writes.now.items in
+    let after = pages_after page c.push.new.self.items in
+    let now : after ≡ _ = ap (pages_after page) c.push.ensures.items ∙ loaded_more page c.args.writes.now.items write in
     bytes_next before after c.args.self.now.pages.items c.push-2.new.self.items write.number c.push-2.ensures.items (not_taken c)
     (λ other apart. ap (λ (pages : ℕ → List ℕ). pages other) now ∙ written_apart before write other apart)
-    (padded c.args.self.now.rest.items)
-    (ap (λ (pages : ℕ → List ℕ). pages write.number) now ∙ written_here before write ∙ c.page_of.ensures ∙ ap padded c.deref-2.ensures.0)
+    (padded_page c.args.self.now.rest.items)
+    (ap (λ (pages : ℕ → List ℕ). pages write.number) now ∙ written_here before write ∙ c.page_of.ensures ∙ ap padded_page c.deref-2.ensures.0)
 
 pub returns-clause-taken : goal.returns-clause-taken
 returns-clause-taken c taken =
-    let whole : IsWhole (the_write c) = search rules in
+    let whole : IsWholePage (the_write c) = search rules in
     taken_next c.args.tables.now taken c.args.self.now.pages.items c.push-2.new.self.items c.args.writes.now.items c.push.new.self.items (the_write c) c.push-2.ensures.items c.push.ensures.items
     whole c.free_page-number.ensures.range c.free_page-number.ensures.free (not_taken c)

@@ -1,7 +1,7 @@
 use Rattle.std.proofs.Common.{◌≡◌, ◌++◌, ◌+◌, ◌-◌, drop, take, true, ℕ, List, Some, refl, ap, sym, subst, ◌∙◌}
 use Rattle.std.specs.Prelude.{length, map}
 use Rattle.std.specs.List.{concat}
-use Rattle.load_session.specs.Prelude.{RepresentsAfter, RepresentsWhole, loaded, pages_of, size_of, with_block}
+use Rattle.load_session.specs.Prelude.{RepresentsAfter, RepresentsWhole, pages_after, pages_of, size_of, with_block}
 use Rattle.load_session.proofs.Judged.{up_to_end}
 use Rattle.load_session.proofs.Loading.{pages_stay_whole}
 use Rattle.load_session.specs.declared.session.LoadSession.{LoadSession}
@@ -13,7 +13,7 @@ returns-then-last-clause-stands c page load has stands =
     let start = c.args.taken.start in
     let bytes = take (length block - start) (drop start block) in
     let sent : bytes ≡ drop start block = up_to_end block start in
-    let after = loaded page c.close.new.writes.items in
+    let after = pages_after page c.close.new.writes.items in
     let kept : LoadSession = record c.args.self.now { announced = Some c.args.taken.size; paged = c.close.new.self; blocks = c.args.self.now.blocks + 1 } in
     let last : c.args.last ≡ true = cc (c.if-last.true) in
     let size : size_of c.add.new.self ≡ c.args.taken.size = c.add.ensures.size ∙ ap (λ (b : List ℕ). size_of c.args.self.now.paged + length b) sent ∙ c.requires.taken.all last in

@@ -7,7 +7,7 @@ use Rattle.card_types.specs.Registry.{Registry}
 use Rattle.flash_core.specs.declared.page.Page.{Page}
 use Rattle.page_journal.specs.Moments.{Always, LeavesOnly}
 use Rattle.rec_store.specs.Contents.{CardFails, IsUnwritten, OpenFails}
-use Rattle.rec_store.specs.Reopens.{IsInLayout, Keeps, Reopens, ReopensAsOne, load_page}
+use Rattle.rec_store.specs.Reopens.{IsInLayout, KeepsRegistry, Reopens, ReopensAsOne, load_page}
 use Rattle.rec_store.specs.declared.store_layout.Layout.TheVariants.{Third}
 use Rattle.rec_store.proofs.Causes.{each_error, each_ok, opens_later}
 use Rattle.rec_store.proofs.Leaving.{joined, unwritten_on, weaker}
@@ -28,7 +28,7 @@ returns-in-Ok-mount-clause-in_order g c =
 pub returns-in-Ok-mount-clause-says : goal.returns-in-Ok-mount-clause-says
 returns-in-Ok-mount-clause-says g c told =
     let F = g.F.Flash in
-    subst (λ (pages : List Page). IfOk c.open.result (λ r. (registry : Registry) × Reopens pages registry × Represents (load_page (F.pages r.flash)) r.tables registry × Keeps F r.flash registry))
+    subst (λ (pages : List Page). IfOk c.open.result (λ r. (registry : Registry) × Reopens pages registry × Represents (load_page (F.pages r.flash)) r.tables registry × KeepsRegistry F r.flash registry))
     (c.in-Ok-mount.ensures.pages told) (c.open.ensures.says told)
 
 pub returns-in-Ok-mount-clause-load : goal.returns-in-Ok-mount-clause-load

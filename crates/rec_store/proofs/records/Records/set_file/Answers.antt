@@ -1,7 +1,7 @@
 use Rattle.std.proofs.Common.{◌≡◌, ◌+◌, ◌/◌, refl, ap, sym, subst, ◌∙◌, arith}
 use Rattle.std.specs.Prelude.{All}
 use Rattle.card_check.specs.IsCard.{IsInLoadPages}
-use Rattle.card_types.specs.Represents.{used}
+use Rattle.card_types.specs.Represents.{things_in}
 use Rattle.rec_store.specs.FileSlot.{HoldsFile}
 use Rattle.rec_store.specs.Places.{file_page}
 use Rattle.rec_store.specs.Room.{HasFrame, with_staged}
@@ -17,7 +17,7 @@ stage_slots-requires-clause-frame g c =
     frame_for c.self.inside.store.staged c.args.self.now.staged (9 + c.args.slot / 1) (ap (λ r. r.staged) c.self.view_is) (subst (HasFrame c.args.self.now.staged) is c.requires.frame)
 
 pub stage_slots-requires-clause-roomy : goal.stage_slots-requires-clause-roomy
-stage_slots-requires-clause-roomy g c = subst (λ slots. All IsInLoadPages (used slots)) (sym c.deref.ensures.value) (of_all_set IsInLoadPages c.self.inside.tables.files.items c.from.result c.args.value c.self.invariant.0.files c.requires.roomy)
+stage_slots-requires-clause-roomy g c = subst (λ slots. All IsInLoadPages (things_in slots)) (sym c.deref.ensures.value) (of_all_set IsInLoadPages c.self.inside.tables.files.items c.from.result c.args.value c.self.invariant.0.files c.requires.roomy)
 
 pub invariant_of-self : goal.invariant_of-self
 invariant_of-self g c =

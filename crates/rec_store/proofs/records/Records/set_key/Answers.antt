@@ -1,6 +1,6 @@
 use Rattle.std.proofs.Common.{◌/◌, refl, ap, sym, subst, ◌∙◌}
 use Rattle.std.specs.Prelude.{All}
-use Rattle.card_types.specs.Represents.{used}
+use Rattle.card_types.specs.Represents.{things_in}
 use Rattle.rec_store.specs.KeySlot.{HoldsKey, IsRoomyKey}
 use Rattle.rec_store.specs.Places.{key_page}
 use Rattle.rec_store.specs.StoredTables.{HoldsPage}
@@ -13,7 +13,7 @@ pub stage_slots-requires-clause-frame : goal.stage_slots-requires-clause-frame
 stage_slots-requires-clause-frame g c = frame_for c.self.inside.store.staged c.args.self.now.staged (key_page c.args.slot) (ap (λ r. r.staged) c.self.view_is) c.requires.frame
 
 pub stage_slots-requires-clause-roomy : goal.stage_slots-requires-clause-roomy
-stage_slots-requires-clause-roomy g c = subst (λ slots. All IsRoomyKey (used slots)) (sym c.deref.ensures.value) (of_all_set IsRoomyKey c.self.inside.tables.keys.items c.from.result c.args.value c.self.invariant.0.keys c.requires.roomy)
+stage_slots-requires-clause-roomy g c = subst (λ slots. All IsRoomyKey (things_in slots)) (sym c.deref.ensures.value) (of_all_set IsRoomyKey c.self.inside.tables.keys.items c.from.result c.args.value c.self.invariant.0.keys c.requires.roomy)
 
 pub invariant_of-self : goal.invariant_of-self
 invariant_of-self g c =

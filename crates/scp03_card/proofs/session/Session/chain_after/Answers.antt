@@ -3,13 +3,13 @@ use Rattle.cmac_kdf.specs.Cmac.{cmac}
 use Rattle.apdu_core.specs.Apdu.{apdu_of}
 use Rattle.scp03_card.specs.Kept.{KeptSession}
 use Rattle.scp03_card.specs.Session.{message}
-use Rattle.scp03_card.proofs.SessionLemmas.{kept_next_chain, message_behind}
+use Rattle.scp03_card.proofs.SessionLemmas.{kept_next_chain, message_after}
 use Rattle.scp03_card.proofs.session.Session.chain_after.Goals as goal
 
 pub returns : goal.returns
 returns g c = λ session stands.
     let m : List ℕ = message (apdu_of c.args.command.now) c.args.field.now in
     c.chain_after.ensures
-    ∙ ap (cmac c.self.inside.keys.mac) (message_behind c.self.inside.chain (apdu_of c.args.command.now) c.args.field.now)
+    ∙ ap (cmac c.self.inside.keys.mac) (message_after c.self.inside.chain (apdu_of c.args.command.now) c.args.field.now)
     ∙ ap (λ (k : KeptSession). cmac k.keys.mac (k.chain ++ m)) c.self.view_is
     ∙ kept_next_chain c.args.self.now session stands m
