@@ -37,10 +37,7 @@ card_from_slots page whole tables card arrays =
       said = said;
       of = record {
         layout = record {
-          entries = card.room.entries;
-          files = card.room.files;
-          keys = card.room.keys;
-          objects = card.room.objects;
+          slots = card.room;
           issuer = used_from (λ (entry : Entry). entry.aid ≡ ISSUER) (thing_in tables.entries.items 0) issuer.0 issuer.1 issuer.2.aid;
         };
         factory_file = used_from (λ (file : LoadFile). (file.aid ≡ FACTORY_FILE) × (file.len ≡ 0)) (thing_in tables.files.items 0) factory.0 factory.1 (factory.2.aid, factory.2.len);

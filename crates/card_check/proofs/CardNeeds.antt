@@ -227,7 +227,7 @@ module _ (page : ℕ → List ℕ) (tables : Tables) (card : IsCard page tables)
 
   pub slots_of_card : HasCardSlots tables
   slots_of_card = record {
-    room = record { entries = card.of.layout.entries; files = card.of.layout.files; keys = card.of.layout.keys; objects = card.of.layout.objects };
+    room = card.of.layout.slots;
     issuer = used_from IsIssuerEntry (thing_in entries 0) first_entry.0 first_entry.1 issuer_is;
     factory_file = used_from IsFactoryLoadFile (thing_in files 0) first_file.0 first_file.1 factory_is;
     entries = record { at = entry_is };

@@ -44,10 +44,12 @@ module _ (before after : Tables) (entries : length after.entries.items ≡ lengt
         said = now.0;
         of = record {
           layout = record {
-            entries = entries ∙ is.of.layout.entries;
-            files = files ∙ is.of.layout.files;
-            keys = keys ∙ is.of.layout.keys;
-            objects = objects ∙ is.of.layout.objects;
+            slots = record {
+              entries = entries ∙ is.of.layout.slots.entries;
+              files = files ∙ is.of.layout.slots.files;
+              keys = keys ∙ is.of.layout.slots.keys;
+              objects = objects ∙ is.of.layout.slots.objects;
+            };
             issuer = issuer is.of.layout.issuer;
           };
           factory_file = are.factory;

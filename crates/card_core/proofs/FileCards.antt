@@ -125,7 +125,7 @@ module _ (before after : Tables) (slot : ℕ) (file : LoadFile) (adds : AddsFile
       let view = file_of page before.entries.items in
       let unnamed = none_found_none_named page before said says file.aid none in
       let room = file_room page before said says slot adds.free.within adds.free.free in
-      let slots = (in_order before cards).layout.files in
+      let slots = (in_order before cards).layout.slots.files in
       let long = as_long page whole before.entries.items file array is.size in
       let counted = sum_by-IsPermutation (λ (f : registry.LoadFile). pages_of (length f.bytes)) (map view (things_in before.files.items)) said.files says.files in
       let fewer = pages_at_most page before.entries.items (things_in before.files.items) in

@@ -34,9 +34,11 @@ factory_says page tables is =
 
 pub factory_layout : (tables : Tables) → IsFactory tables → HasLayout tables
 factory_layout tables is = record {
-  entries = ap (λ (slots : List (Option Entry)). length slots) is.entries;
-  files = ap (λ (slots : List (Option LoadFile)). length slots) is.files;
-  keys = ap (λ (slots : List (Option KeyRec)). length slots) is.keys;
-  objects = ap (λ (slots : List (Option Object)). length slots) is.objects;
+  slots = record {
+    entries = ap (λ (slots : List (Option Entry)). length slots) is.entries;
+    files = ap (λ (slots : List (Option LoadFile)). length slots) is.files;
+    keys = ap (λ (slots : List (Option KeyRec)). length slots) is.keys;
+    objects = ap (λ (slots : List (Option Object)). length slots) is.objects;
+  };
   issuer = rw is.entries refl;
 }

@@ -101,10 +101,7 @@ pub record HasSlots (tables : Tables) : Type 0 where
 
 -- There is a slot for each such thing, and the Issuer Security Domain is in its own.
 pub record HasLayout (tables : Tables) : Type 0 where
-  pub entries : length tables.entries.items ≡ ENTRIES
-  pub files : length tables.files.items ≡ FILES
-  pub keys : length tables.keys.items ≡ KEYS
-  pub objects : length tables.objects.items ≡ OBJECTS
+  pub slots : HasSlots tables
   pub issuer : HasIssuer tables.entries.items
 
 -- For the code inside. The tables of a card: they lay out a registry that a card may have.

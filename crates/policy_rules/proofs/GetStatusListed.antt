@@ -69,7 +69,7 @@ module _ (page : ℕ → List ℕ) (tables : Tables) where
     in_slot layout p1 (AnEntry entry) there by =
         let at = entries_shown.from entry there in
         let low = held_within tables.entries.items at.0 at.1 at.2 in
-        (at.0, omega (arith, low, layout.entries), subst (λ (f : Found). IsThingAt page tables f (AnEntry entry)) (sym (entry_slot by at.0)) (at.1, at.2, ap AnEntry (sym at.4)))
+        (at.0, omega (arith, low, layout.slots.entries), subst (λ (f : Found). IsThingAt page tables f (AnEntry entry)) (sym (entry_slot by at.0)) (at.1, at.2, ap AnEntry (sym at.4)))
       where
         entry_slot : {p1 : ℕ} {aid : List ℕ} → ((p1 ≡ 0x80) × (aid ≡ ISSUER)) ⊎ ((p1 ≡ 0x40) × (aid ≢ ISSUER)) → (slot : ℕ) → found_in p1 slot ≡ found.Entry slot
         entry_slot {p1} {aid} (inl first) slot = ap (λ (p : ℕ). found_in p slot) first.0
@@ -77,7 +77,7 @@ module _ (page : ℕ → List ℕ) (tables : Tables) where
     in_slot layout p1 (AFile file) there by =
         let at = files_shown.from file there in
         let low = held_within tables.files.items at.0 at.1 at.2 in
-        (at.0, omega (arith, low, layout.files), subst (λ (f : Found). IsThingAt page tables f (AFile file)) (sym (file_slot by at.0)) (at.1, at.2, ap AFile (sym at.4)))
+        (at.0, omega (arith, low, layout.slots.files), subst (λ (f : Found). IsThingAt page tables f (AFile file)) (sym (file_slot by at.0)) (at.1, at.2, ap AFile (sym at.4)))
       where
         file_slot : {p1 : ℕ} → (p1 ≡ 0x20) ⊎ (p1 ≡ 0x10) → (slot : ℕ) → found_in p1 slot ≡ found.File slot
         file_slot {p1} (inl first) slot = ap (λ (p : ℕ). found_in p slot) first

@@ -195,7 +195,7 @@ module _ (store load : ℕ → List ℕ) (t u : Tables) {a b : Layout} (first : 
     -- where the one are a card's, so are the others
     pub card_alike : (said : registry.Registry) → IsCardOf load u said → IsCardOf load t said
     card_alike said card = record {
-      layout = record { entries = first.slots.entries; files = first.slots.files; keys = first.slots.keys; objects = first.slots.objects; issuer = subst HasIssuer (sym same) card.layout.issuer };
+      layout = record { slots = first.slots; issuer = subst HasIssuer (sym same) card.layout.issuer };
       factory_file = factory_alike (thing_in t.files.items 0) (thing_in u.files.items 0) (same_file 0 (omega (arith, first.slots.files))) card.factory_file;
       files = of_all IsInLoadPages t.files.items (λ i lt. loaded_alike (thing_in t.files.items i) (thing_in u.files.items i) (same_file i lt) (of_slot IsInLoadPages u.files.items i card.files));
       apart = subst (λ pages. IsDistinct nat_eq (concat pages)) (sym same_pages) card.apart;

@@ -86,7 +86,7 @@ returns-then-exceeds_domain-clause-refused c page admitted acts told is =
 pub returns-in-None-clause-refused : goal.returns-in-None-clause-refused
 returns-in-None-clause-refused c page admitted acts told is =
     let at = goal.at.returns-in-None-clause-refused c in
-    let fails = full page c.args.tables.now c.args.domain admitted acts c.args.self.now is c.requires.in_order.layout.entries (rw c.deref-2.ensures.value at c.in-None.ensures.none) in (
+    let fails = full page c.args.tables.now c.args.domain admitted acts c.args.self.now is c.requires.in_order.layout.slots.entries (rw c.deref-2.ensures.value at c.in-None.ensures.none) in (
       II7,
       refl,
       from_3 at.After-is_out_of_charge page admitted acts is _ (from_5 at.After-may_be_made page admitted acts told is _
@@ -96,7 +96,7 @@ returns-in-None-clause-refused c page admitted acts told is =
 pub returns-in-Some-first_free-clause-passed : goal.returns-in-Some-first_free-clause-passed
 returns-in-Some-first_free-clause-passed c page admitted acts told is =
     let at = goal.at.returns-in-Some-first_free-clause-passed c in
-    let seven = roomy page c.args.tables.now c.args.domain admitted acts c.args.self.now is c.requires.in_order.layout.entries c.in-Some-first_free.field-0
+    let seven = roomy page c.args.tables.now c.args.domain admitted acts c.args.self.now is c.requires.in_order.layout.slots.entries c.in-Some-first_free.field-0
     (rw c.deref-2.ensures.value at c.in-Some-first_free.ensures.some) in
     from_3 at.After-is_out_of_charge page admitted acts is _ (from_5 at.After-may_be_made page admitted acts told is _
     (from_7 at.After-first_free page admitted acts is _ (inr (seven, refl))))

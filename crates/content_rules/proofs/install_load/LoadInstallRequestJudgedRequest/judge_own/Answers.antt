@@ -90,7 +90,7 @@ returns-then-is_unfit_hash-clause-refused c page admitted acts told is =
 pub returns-in-None-clause-refused : goal.returns-in-None-clause-refused
 returns-in-None-clause-refused c page admitted acts told is =
     let at = goal.at.returns-in-None-clause-refused c in
-    let fails = full page c.args.tables.now c.args.domain admitted acts c.args.self.now is c.requires.in_order.layout.files (rw c.deref.ensures.value at c.in-None.ensures.none) in (
+    let fails = full page c.args.tables.now c.args.domain admitted acts c.args.self.now is c.requires.in_order.layout.slots.files (rw c.deref.ensures.value at c.in-None.ensures.none) in (
       IL7,
       refl,
       from_3 at.After-find page admitted acts told is _ (from_5 at.After-is_at_or_above page admitted acts is _
@@ -100,7 +100,7 @@ returns-in-None-clause-refused c page admitted acts told is =
 pub returns-in-Some-first_free-clause-passed : goal.returns-in-Some-first_free-clause-passed
 returns-in-Some-first_free-clause-passed c page admitted acts told is =
     let at = goal.at.returns-in-Some-first_free-clause-passed c in
-    let seven = roomy page c.args.tables.now c.args.domain admitted acts c.args.self.now is c.requires.in_order.layout.files c.in-Some-first_free.field-0
+    let seven = roomy page c.args.tables.now c.args.domain admitted acts c.args.self.now is c.requires.in_order.layout.slots.files c.in-Some-first_free.field-0
     (rw c.deref.ensures.value at c.in-Some-first_free.ensures.some) in
     from_3 at.After-find page admitted acts told is _ (from_5 at.After-is_at_or_above page admitted acts is _
     (from_7 at.After-first_free page admitted acts is _ (inr (seven, refl))))
