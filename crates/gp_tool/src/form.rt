@@ -1,8 +1,9 @@
 //! The forms of a line.
 
-ghost use Rattle.std.specs.Prelude.{◌≡◌, ◌≤◌, ◌<◌, ◌*◌, ℕ, List, length, take, codes, IsTrue, ◌↔◌, IfSome, Ok, MatchOption};
+ghost use Rattle.std.specs.Prelude.{◌≡◌, ◌≤◌, ◌<◌, ◌*◌, ℕ, List, length, take, IfSome, Ok, MatchOption};
 ghost use Rattle.gp_tool.specs.Prelude.{FitsRoom, IsForCard, SpellsInputs, decode_of, inputs_of};
 
+use crate::bytes::is_same;
 use io_edge::LINE_LIMIT;
 use script_tool::says_nothing;
 
@@ -33,12 +34,6 @@ pub fn decode(line: &[u8], bytes: &mut [u8; COMMAND_LIMIT]) -> Option<usize>
     }
 }
 
-fn is_reset(line: &[u8]) -> bool
-    ensures { IsTrue result ↔ (line.now ≡ codes "reset") }
-{
-    line == b"reset".as_slice()
-}
-
 /// What a line says, with the bytes of a command in the front of `bytes`, or nothing where it is malformed.
 pub fn read_form(line: &[u8], bytes: &mut [u8; COMMAND_LIMIT]) -> Option<Form>
     requires { length line.now ≤ LINE_LIMIT }
@@ -48,7 +43,7 @@ pub fn read_form(line: &[u8], bytes: &mut [u8; COMMAND_LIMIT]) -> Option<Form>
     if says_nothing(line) {
         return Some(Form::Nothing);
     }
-    if is_reset(line) {
+    if is_same(line, b"reset") {
         return Some(Form::Reset);
     }
     let count = decode(line, bytes)?;

@@ -24,6 +24,7 @@
 #![tactic(auto)]
 
 mod answer;
+mod bytes;
 mod cap_verb;
 mod card_end;
 mod command;

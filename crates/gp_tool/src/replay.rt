@@ -1,10 +1,11 @@
 //! A line of the verb `replay`.
 
-ghost use Rattle.std.specs.Prelude.{◌≡◌, ◌≢◌, ◌≤◌, ◌∷◌, ℕ, Bool, List, true, take, length, IfSome, IsTrue, MatchOption, ◌↔◌};
+ghost use Rattle.std.specs.Prelude.{◌≡◌, ◌≢◌, ◌≤◌, ◌∷◌, ℕ, Bool, List, true, take, length, IfSome, MatchOption};
 ghost use Rattle.gp_tool.specs.Prelude.{ComparesLine, FailsCommand, IsForReplay, IsHeld, KeepsLine, Replays, ServeCause, ServesLine, SkipsSpaces, Wants, keeping, kept_in, standing};
 ghost use Rattle.gp_tool.specs.declared.form.TheConstants.{COMMAND_LIMIT};
 ghost use Rattle.gp_tool.specs.declared.line.LineEnd.TheVariants.{FlashFault};
 
+use crate::bytes::{begins_with, is_same};
 use crate::card_end::CardEnd;
 use crate::difference::write_difference;
 use crate::form::{COMMAND_LIMIT, decode};
@@ -18,28 +19,15 @@ use io_edge::{LINE_LIMIT, Sink};
 /// How many digits a wanted reply has, at least.
 const DIGITS_LEAST: usize = 4;
 
-fn begins_with_space(text: &[u8]) -> bool
-    ensures { IsTrue result ↔ ((more : List ℕ) × (text.now ≡ 32 ∷ more)) }
-{
-    matches!(text, [b' ', ..])
-}
-
 // What stands after the spaces that a text begins with.
 fn skip_spaces(text: &[u8]) -> &[u8]
     ensures { SkipsSpaces text.now result.now }
 {
     let mut rest = text;
-    while begins_with_space(rest) {
+    while begins_with(rest, b' ') {
         rest = &rest[1..];
     }
     rest
-}
-
-// Whether a line wants a reply, by its first byte.
-fn wants_reply(line: &[u8]) -> bool
-    ensures { IsTrue result ↔ ((rest : List ℕ) × (line.now ≡ 61 ∷ rest)) }
-{
-    matches!(line, [b'=', ..])
 }
 
 // The bytes that a line wants, in the front of `bytes`, where it wants a reply.
@@ -54,12 +42,6 @@ fn read_wanted(line: &[u8], bytes: &mut [u8; COMMAND_LIMIT]) -> Option<usize>
         return None;
     }
     decode(digits, bytes)
-}
-
-fn is_same(wanted: &[u8], reply: &[u8]) -> bool
-    ensures { IsTrue result ↔ (wanted.now ≡ reply.now) }
-{
-    wanted == reply
 }
 
 // Compares the reply that is there with the one that a line wants, and writes a difference.
@@ -143,7 +125,7 @@ pub fn replay_line<K: Sink, F: Flash>(
     ensures later { F.faults end.old.card.flash ≤ F.faults end.new.card.flash }
     ensures cause { ServeCause (K.state sink.old).faults (K.state sink.new).faults (F.faults end.old.card.flash) (F.faults end.new.card.flash) result }
 {
-    if wants_reply(line) {
+    if begins_with(line, b'=') {
         compare_line(number, line, differs, space, sink)
     } else {
         keep_reply(line, &mut end.card, &mut end.done, space)

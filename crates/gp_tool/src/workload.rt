@@ -1,7 +1,9 @@
 //! Which workload the words name.
 
-ghost use Rattle.std.specs.Prelude.{◌≡◌, ◌<◌, ◌≤◌, ◌∷◌, ◌^◌, ◌↔◌, ℕ, List, IsTrue, MatchOption, string_bytes};
+ghost use Rattle.std.specs.Prelude.{◌≡◌, ◌<◌, ◌≤◌, ◌^◌, ◌↔◌, ℕ, List, IsTrue, MatchOption, string_bytes};
 ghost use Rattle.gp_tool.specs.Mill.{IsNumber, NameWorkload};
+
+use crate::bytes::begins_with;
 
 /// A workload: the seed of its generator, and how many rounds it has.
 #[derive(Clone, Copy)]
@@ -16,18 +18,11 @@ const SEED_DIGITS: usize = 20;
 /// How many digits a number of rounds has, at most.
 const ROUNDS_DIGITS: usize = 5;
 
-// Whether the word begins with a sign, which a number that is parsed may have.
-fn has_sign(word: &String) -> bool
-    ensures { IsTrue result ↔ ((rest : List ℕ) × (string_bytes word.now ≡ 43 ∷ rest)) }
-{
-    matches!(word.as_bytes(), [b'+', ..])
-}
-
-// A number in so many digits at most.
+// A number in so many digits at most, and without the sign that a number which is parsed may have.
 fn read_number(word: &String, most: usize) -> Option<u64>
     ensures { MatchOption result ((n : ℕ) → n < 2 ^ 64 → IsNumber most (string_bytes word.now) n → ⊥) (λ n. IsNumber most (string_bytes word.now) n) }
 {
-    if has_sign(word) || word.len() > most {
+    if begins_with(word.as_bytes(), b'+') || word.len() > most {
         return None;
     }
     word.parse().ok()

@@ -5,4 +5,4 @@ pub loop-rest-init : goal.loop-rest-init
 loop-rest-init c = none_skipped c.args.text.now
 
 pub loop-rest-preserved : goal.loop-rest-preserved
-loop-rest-preserved c = tail_skipped c.args.text.now c.loop-rest.rest.now c.loop-rest.invariant (c.begins_with_space.ensures.0 c.loop-rest-test.true)
+loop-rest-preserved c = tail_skipped c.args.text.now c.loop-rest.rest.now c.loop-rest.invariant (c.begins_with.ensures.0 c.loop-rest-test.true)
