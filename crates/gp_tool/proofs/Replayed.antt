@@ -16,7 +16,7 @@ use Rattle.gp_tool.specs.Form.{FailsCommand}
 use Rattle.gp_tool.specs.Replay.{Compares, IsForReplay, LastReply, Replays}
 use Rattle.gp_tool.specs.Serve.{IsHeld, RunsLine, ServesLine, Standing, StandsAt}
 use Rattle.gp_tool.specs.declared.line.LineEnd.{LineEnd}
-use Rattle.gp_tool.specs.declared.line.LineEnd.TheVariants.{Done, NoForm, WriteFault, FlashFault}
+use Rattle.gp_tool.specs.declared.line.LineEnd.TheVariants.{Done, NoForm, WriteFault, FlashFailed}
 
 -- no command is in a comparison
 no_outcomes : (number : ℕ) (want got : List ℕ) (effect : LineEffect) → Compares number want got effect → effect.outcomes ≡ []
@@ -62,7 +62,7 @@ module _ {F : Type 0} (device : Flash F) (writes : Type 0) (number : ℕ) (line 
     compared_serves rest text text' begins WriteFault compared = λ place stands.
         (let played = met_runs compared.0 place stands in
         (played.0, compared.1, played.1 ∙ compared.2, compared.3))
-    compared_serves rest text text' begins FlashFault compared = absurd compared
+    compared_serves rest text text' begins FlashFailed compared = absurd compared
 
   -- a line was given to the card
   pub kept_serves : (old new : Standing F LastReply) (text : List ℕ) → ((rest : List ℕ) → line ≡ 61 ∷ rest → ⊥) → (result : LineEnd) → KeepsLine line device old new result
@@ -90,4 +90,4 @@ module _ {F : Type 0} (device : Flash F) (writes : Type 0) (number : ℕ) (line 
     λ told. refl,
   )
   kept_serves old new text other WriteFault kept = absurd kept
-  kept_serves old new text other FlashFault kept = (λ told. refl, kept)
+  kept_serves old new text other FlashFailed kept = (λ told. refl, kept)

@@ -9,7 +9,7 @@ use Rattle.gp_tool.specs.Form.{FailsCommand, IsForCard}
 use Rattle.gp_tool.specs.Replay.{Compares, KeepsReplies, LastReply, Meets}
 use Rattle.gp_tool.specs.Serve.{BreaksLine, IsHeld, RunsLine, Standing, StandsAt}
 use Rattle.gp_tool.specs.declared.line.LineEnd.{LineEnd}
-use Rattle.gp_tool.specs.declared.line.LineEnd.TheVariants.{Done, NoForm, WriteFault, FlashFault}
+use Rattle.gp_tool.specs.declared.line.LineEnd.TheVariants.{Done, NoForm, WriteFault, FlashFailed}
 
 -- Some spaces come first in a text, and this stands after them and begins with none.
 pub record SkipsSpaces (text rest : List ℕ) : Type 0 where
@@ -37,14 +37,14 @@ ComparesLine number line writes kept kept' differs differs' old new NoForm =
 ComparesLine number line writes kept kept' differs differs' old new WriteFault =
     (met : IsMet number line kept kept' differs differs') × (text : List ℕ) × (met.effect.texts ≡ text ∷ [])
     × (writes → (n : ℕ) × (new ≡ old ++ take n text))
-ComparesLine number line writes kept kept' differs differs' old new FlashFault = ⊥
+ComparesLine number line writes kept kept' differs differs' old new FlashFailed = ⊥
 
 -- what comes of a line for the card in `replay`, which writes nothing
 abbrev pub KeepsLine : {F : Type 0} → List ℕ → Flash F → Standing F LastReply → Standing F LastReply → LineEnd → Type 0
 KeepsLine line device old new Done = (place : LinePlace LastReply) → StandsAt IsHeld device old place → (played : RunsLine IsHeld (KeepsReplies line) device old new place) × (played.effect.texts ≡ [])
 KeepsLine line device old new NoForm = (IsForCard line → ⊥) × (new ≡ old)
 KeepsLine line device old new WriteFault = ⊥
-KeepsLine line device old new FlashFault = (place : LinePlace LastReply) → StandsAt IsHeld device old place → BreaksLine (FailsCommand line) device old new place
+KeepsLine line device old new FlashFailed = (place : LinePlace LastReply) → StandsAt IsHeld device old place → BreaksLine (FailsCommand line) device old new place
 
 -- where the code stands in `replay`
 abbrev pub keeping : {F : Type 0} → CardOver F → LastReply → ℕ → Bool → Standing F LastReply

@@ -32,7 +32,7 @@ GivesCard line device card card' done done' kept kept' (given.Answered rule) =
     × ((state : State) → CardRepresents device card state
     → (outcome : Outcome) × Commands line device card.flash card'.flash state outcome
     × CardRepresents device card' outcome.state × (kept' ≡ outcome.reply) × (rule ≡ outcome.rule))
-GivesCard line device card card' done done' kept kept' given.FlashFault =
+GivesCard line device card card' done done' kept kept' given.FlashFailed =
     (done' ≡ done)
     × ((state : State) → CardRepresents device card state
     → (outcome : Outcome) × Commands line device card.flash card'.flash state outcome

@@ -10,7 +10,7 @@ use Rattle.gp_tool.specs.Counted.{CountsOn}
 use Rattle.gp_tool.specs.Device.{LeavesOneOf, LeftOneOf, registries}
 use Rattle.gp_tool.specs.Effects.{LineEffect, LinePlace}
 use Rattle.gp_tool.specs.declared.line.LineEnd.{LineEnd}
-use Rattle.gp_tool.specs.declared.line.LineEnd.TheVariants.{Done, NoForm, WriteFault, FlashFault}
+use Rattle.gp_tool.specs.declared.line.LineEnd.TheVariants.{Done, NoForm, WriteFault, FlashFailed}
 
 -- Where the program stands between two lines: the card, what the code holds of the lines before, how many commands were
 -- answered, and whether a reply differed.
@@ -62,11 +62,11 @@ ServesLine {F} {H} {M} Means Plays HasForm Fails device writes old new text text
     (place : LinePlace M) → StandsAt Means device old place
     → (played : RunsLine Means Plays device old new place) × (line : List ℕ) × (played.effect.texts ≡ line ∷ [])
     × (writes → (n : ℕ) × (text' ≡ text ++ take n line))
-ServesLine {F} {H} {M} Means Plays HasForm Fails device writes old new text text' FlashFault =
+ServesLine {F} {H} {M} Means Plays HasForm Fails device writes old new text text' FlashFailed =
     (writes → text' ≡ text) × ((place : LinePlace M) → StandsAt Means device old place → BreaksLine Fails device old new place)
 
 -- whose count of faults has risen: the sink's, from one number to another, or the device's
 abbrev pub ServeCause : ℕ → ℕ → ℕ → ℕ → LineEnd → Type 0
 ServeCause sink sink' device device' WriteFault = Rose sink sink'
-ServeCause sink sink' device device' FlashFault = (sink' ≡ sink) × Rose device device'
+ServeCause sink sink' device device' FlashFailed = (sink' ≡ sink) × Rose device device'
 ServeCause sink sink' device device' end = sink' ≡ sink

@@ -2,7 +2,6 @@
 
 ghost use Rattle.std.specs.Prelude.{◌≡◌, ◌≢◌, ◌≤◌, Bool, true, length};
 ghost use Rattle.gp_tool.specs.Prelude.{FailsCommand, IsForCard, IsHeld, Replies, ServeCause, ServesLine, standing};
-ghost use Rattle.gp_tool.specs.declared.line.LineEnd.TheVariants.{FlashFault};
 
 use crate::card_end::CardEnd;
 use crate::give::{Given, give_line};
@@ -24,7 +23,7 @@ pub fn answer_line<K: Sink, F: Flash>(
     requires live { end.old.card.live ≡ true }
     ensures served { (differs : Bool) → ServesLine IsHeld (Replies explains line.now) (λ memory. IsForCard line.now) (FailsCommand line.now) F.Flash K.tells
         (standing end.old tt differs) (standing end.new tt differs) (K.state sink.old).written (K.state sink.new).written result }
-    ensures live { result ≢ FlashFault → end.new.card.live ≡ true }
+    ensures live { result ≢ LineEnd.FlashFailed → end.new.card.live ≡ true }
     ensures flushes { (K.state sink.new).flushes ≡ (K.state sink.old).flushes }
     ensures later { F.faults end.old.card.flash ≤ F.faults end.new.card.flash }
     ensures cause { ServeCause (K.state sink.old).faults (K.state sink.new).faults (F.faults end.old.card.flash) (F.faults end.new.card.flash) result }
@@ -33,7 +32,7 @@ pub fn answer_line<K: Sink, F: Flash>(
         Given::NoForm => LineEnd::NoForm,
         Given::Nothing => LineEnd::Done,
         Given::Reset => LineEnd::Done,
-        Given::FlashFault => LineEnd::FlashFault,
+        Given::FlashFailed => LineEnd::FlashFailed,
         Given::Answered(rule) => {
             match write_reply(explains, &space.reply, rule, &mut space.text, sink) {
                 Ok(()) => LineEnd::Done,

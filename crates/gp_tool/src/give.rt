@@ -2,7 +2,6 @@
 
 ghost use Rattle.std.specs.Prelude.{◌≡◌, ◌≢◌, ◌≤◌, true, length};
 ghost use Rattle.gp_tool.specs.Prelude.{GivesCard, Rose};
-ghost use Rattle.gp_tool.specs.declared.give.Given.TheVariants.{FlashFault};
 
 use crate::command::give_command;
 use crate::form::{Form, read_form};
@@ -24,7 +23,7 @@ pub enum Given {
     /// The card answered its command, whose reply is in the workspace, with the rule that refused it.
     Answered(Option<Rule>),
     /// The device failed in its command.
-    FlashFault,
+    FlashFailed,
 }
 
 /// Gives a line to the card. `done` counts the commands that the card has answered, up to the greatest number that it holds.
@@ -38,9 +37,9 @@ pub fn give_line<F: Flash>(
     requires live { card.old.live ≡ true }
     ensures given { GivesCard line.now F.Flash card.old card.new done.old done.new space.old.reply.items space.new.reply.items result }
     ensures has_reply { space.new.has_reply ≡ space.old.has_reply }
-    ensures live { result ≢ FlashFault → card.new.live ≡ true }
+    ensures live { result ≢ Given.FlashFailed → card.new.live ≡ true }
     ensures later { F.faults card.old.flash ≤ F.faults card.new.flash }
-    ensures cause { result ≡ FlashFault → Rose (F.faults card.old.flash) (F.faults card.new.flash) }
+    ensures cause { result ≡ Given.FlashFailed → Rose (F.faults card.old.flash) (F.faults card.new.flash) }
 {
     match read_form(line, &mut space.command) {
         None => Given::NoForm,
@@ -53,7 +52,7 @@ pub fn give_line<F: Flash>(
             let command = &space.command[..count];
             match give_command(card, done, command, &mut space.reply) {
                 Ok(rule) => Given::Answered(rule),
-                Err(FlashFailed) => Given::FlashFault,
+                Err(FlashFailed) => Given::FlashFailed,
             }
         }
     }

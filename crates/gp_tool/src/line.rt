@@ -2,7 +2,6 @@
 
 ghost use Rattle.std.specs.Prelude.{◌≡◌, ◌≢◌, ◌≤◌, true, length};
 ghost use Rattle.gp_tool.specs.Prelude.{ServeCause, ServesVerb, standing_in};
-ghost use Rattle.gp_tool.specs.declared.line.LineEnd.TheVariants.{FlashFault};
 
 use crate::answer::answer_line;
 use crate::card_end::CardEnd;
@@ -23,7 +22,7 @@ pub enum LineEnd {
     /// The sink refused its text.
     WriteFault,
     /// The device failed in its command, and nothing was written.
-    FlashFault,
+    FlashFailed,
 }
 
 /// Does what the line of this number says, as the verb has it.
@@ -41,7 +40,7 @@ pub fn serve_line<K: Sink, F: Flash>(
     ensures served { ServesVerb verb number line.now F.Flash K.tells
         (standing_in verb end.old space.old differs.old) (standing_in verb end.new space.new differs.new)
         (K.state sink.old).written (K.state sink.new).written result }
-    ensures live { result ≢ FlashFault → end.new.card.live ≡ true }
+    ensures live { result ≢ LineEnd.FlashFailed → end.new.card.live ≡ true }
     ensures flushes { (K.state sink.new).flushes ≡ (K.state sink.old).flushes }
     ensures later { F.faults end.old.card.flash ≤ F.faults end.new.card.flash }
     ensures cause { ServeCause (K.state sink.old).faults (K.state sink.new).faults (F.faults end.old.card.flash) (F.faults end.new.card.flash) result }

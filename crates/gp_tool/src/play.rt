@@ -2,7 +2,6 @@
 
 ghost use Rattle.std.specs.Prelude.{◌≡◌, ◌≢◌, ◌≤◌, ◌||◌, ◌++◌, ◌∷◌, [], ℕ, true, take, OnOk, OnErr};
 ghost use Rattle.gp_tool.specs.Prelude.{BreaksScript, HasCause, IsScript, PlaysScript, RepresentsHost, ServeCause, ServesLine, is_difference_kind, prints_kind, standing};
-ghost use Rattle.gp_tool.specs.declared.line.LineEnd.TheVariants.{FlashFault};
 
 use crate::card_end::CardEnd;
 use crate::line::LineEnd;
@@ -68,7 +67,7 @@ pub fn play_line<K: Sink, F: Flash>(
     ensures served { ServesLine RepresentsHost (PlaysScript line.now) (λ memory. IsScript line.now) (BreaksScript line.now) F.Flash K.tells
         (standing end.old space.old.player differs.old) (standing end.new space.new.player differs.new)
         (K.state sink.old).written (K.state sink.new).written result }
-    ensures live { result ≢ FlashFault → end.new.card.live ≡ true }
+    ensures live { result ≢ LineEnd.FlashFailed → end.new.card.live ≡ true }
     ensures flushes { (K.state sink.new).flushes ≡ (K.state sink.old).flushes }
     ensures later { F.faults end.old.card.flash ≤ F.faults end.new.card.flash }
     ensures cause { ServeCause (K.state sink.old).faults (K.state sink.new).faults (F.faults end.old.card.flash) (F.faults end.new.card.flash) result }
@@ -90,6 +89,6 @@ pub fn play_line<K: Sink, F: Flash>(
             }
         }
         Err(StepStop::Form(_)) => LineEnd::NoForm,
-        Err(StepStop::LinkFailed) => LineEnd::FlashFault,
+        Err(StepStop::LinkFailed) => LineEnd::FlashFailed,
     }
 }

@@ -3,7 +3,6 @@
 ghost use Rattle.std.specs.Prelude.{◌≡◌, ◌≢◌, ◌≤◌, ◌∷◌, ℕ, Bool, List, true, take, length, IfSome, MatchOption};
 ghost use Rattle.gp_tool.specs.Prelude.{ComparesLine, FailsCommand, IsForReplay, IsHeld, KeepsLine, Replays, ServeCause, ServesLine, SkipsSpaces, Wants, keeping, kept_in, standing};
 ghost use Rattle.gp_tool.specs.declared.form.TheConstants.{COMMAND_LIMIT};
-ghost use Rattle.gp_tool.specs.declared.line.LineEnd.TheVariants.{FlashFault};
 
 use crate::bytes::{begins_with, is_same};
 use crate::card_end::CardEnd;
@@ -87,7 +86,7 @@ fn keep_reply<F: Flash>(
     requires line { length line.now ≤ LINE_LIMIT }
     requires live { card.old.live ≡ true }
     ensures kept { (differs : Bool) → KeepsLine line.now F.Flash (keeping card.old (kept_in space.old) done.old differs) (keeping card.new (kept_in space.new) done.new differs) result }
-    ensures live { result ≢ FlashFault → card.new.live ≡ true }
+    ensures live { result ≢ LineEnd.FlashFailed → card.new.live ≡ true }
     ensures later { F.faults card.old.flash ≤ F.faults card.new.flash }
     ensures cause { (sink : ℕ) → ServeCause sink sink (F.faults card.old.flash) (F.faults card.new.flash) result }
 {
@@ -102,7 +101,7 @@ fn keep_reply<F: Flash>(
             space.has_reply = true;
             LineEnd::Done
         }
-        Given::FlashFault => LineEnd::FlashFault,
+        Given::FlashFailed => LineEnd::FlashFailed,
     }
 }
 
@@ -120,7 +119,7 @@ pub fn replay_line<K: Sink, F: Flash>(
     ensures served { ServesLine IsHeld (Replays number line.now) (IsForReplay line.now) (FailsCommand line.now) F.Flash K.tells
         (standing end.old (kept_in space.old) differs.old) (standing end.new (kept_in space.new) differs.new)
         (K.state sink.old).written (K.state sink.new).written result }
-    ensures live { result ≢ FlashFault → end.new.card.live ≡ true }
+    ensures live { result ≢ LineEnd.FlashFailed → end.new.card.live ≡ true }
     ensures flushes { (K.state sink.new).flushes ≡ (K.state sink.old).flushes }
     ensures later { F.faults end.old.card.flash ≤ F.faults end.new.card.flash }
     ensures cause { ServeCause (K.state sink.old).faults (K.state sink.new).faults (F.faults end.old.card.flash) (F.faults end.new.card.flash) result }

@@ -56,7 +56,7 @@ fn take_turn<S: Source, K: Sink, F: Flash>(
             LineEnd::Done => None,
             LineEnd::NoForm => Some(refuse_line(line.number, sink)),
             LineEnd::WriteFault => Some(Ending::WriteFault),
-            LineEnd::FlashFault => Some(Ending::Failed),
+            LineEnd::FlashFailed => Some(Ending::Failed),
         },
         Err(LineStop::End) => Some(Ending::at_end(*differs)),
         Err(LineStop::ReadFailed) => Some(Ending::ReadFault),

@@ -22,11 +22,11 @@ returns-in-Reset-clause-served g c differs place stands =
     (silent_runs IsHeld F _ _ place (Replies c.args.explains c.args.line.now) (record { memory = tt; state = powered_on place.state.registry }) g.met.F.Flash.only_now stands
     (given.3 place.state stands.0, refl) given.1 given.2 refl (Reset ∷ [], given.0, (refl, refl), refl, refl)) (λ told. refl)
 
-pub returns-in-FlashFault-clause-served : goal.returns-in-FlashFault-clause-served
-returns-in-FlashFault-clause-served g c differs = (
+pub returns-in-FlashFailed-clause-served : goal.returns-in-FlashFailed-clause-served
+returns-in-FlashFailed-clause-served g c differs = (
   λ told. refl,
   λ place stands.
-      (let given = c.in-FlashFault.ensures.given in
+      (let given = c.in-FlashFailed.ensures.given in
       let failed = given.1 place.state stands.0 in
       command_breaks IsHeld g.F.Flash _ _ place c.args.line.now failed.0 failed.1 failed.2 given.0),
 )

@@ -28,8 +28,8 @@ returns-in-Answered-clause-kept g c differs place stands =
     command_runs IsHeld g.F.Flash _ _ place c.args.line.now answered.0 answered.1 (KeepsReplies c.args.line.now) (record { memory = Some answered.0.reply; state = answered.0.state }) []
     (answered.2, ap (λ reply. Some reply) answered.3) given.0 refl (Command commands.bytes ∷ [], commands.spelled, (commands.step, (refl, refl)), refl, refl, refl)
 
-pub returns-in-FlashFault-clause-kept : goal.returns-in-FlashFault-clause-kept
-returns-in-FlashFault-clause-kept g c differs place stands =
-    let given = c.in-FlashFault.ensures.given in
+pub returns-in-FlashFailed-clause-kept : goal.returns-in-FlashFailed-clause-kept
+returns-in-FlashFailed-clause-kept g c differs place stands =
+    let given = c.in-FlashFailed.ensures.given in
     let failed = given.1 place.state stands.0 in
     command_breaks IsHeld g.F.Flash _ _ place c.args.line.now failed.0 failed.1 failed.2 given.0

@@ -41,10 +41,10 @@ returns-in-WriteFault-clause-ends g c =
     (let served = (rw c.in-Ok.ensures.number at c.in-WriteFault.ensures.served) place stands in
     (_, given_line c.args.verb g.F.Flash g.S.Source.tells _ _ _ place _ _ _ _ c.in-Ok.line gives c.in-Ok.ensures.text served.0, served.1, served.2, served.3, line_leaves g.S.Source.tells _ _ _ _ c.in-Ok.line gives)))
 
-pub returns-in-FlashFault-clause-ends : goal.returns-in-FlashFault-clause-ends
-returns-in-FlashFault-clause-ends g c =
+pub returns-in-FlashFailed-clause-ends : goal.returns-in-FlashFailed-clause-ends
+returns-in-FlashFailed-clause-ends g c =
     let gives = rw c.in-Ok.is at c.next_line.follows.holds-at-none in
-    let served = c.in-FlashFault.ensures.served in (
+    let served = c.in-FlashFailed.ensures.served in (
       served.0,
       line_takes g.S.Source.tells _ _ _ _ c.in-Ok.line gives,
       λ place stands. failing_line c.args.verb g.F.Flash g.S.Source.tells _ _ place _ _ _ _ c.in-Ok.line gives c.in-Ok.ensures.text (served.1 place stands),
