@@ -12,7 +12,7 @@ pub use Rattle.card_core.specs.Commits.{MayCommit}
 pub use Rattle.card_core.specs.ConfirmedForms.{BecomesAsAsked, IsOfForm, of_form}
 pub use Rattle.card_core.specs.Confirms.{AnswersFor, Confirms, HasChanged, IsAnsweredBy, IsReceiptIn, IsUniqueIn, IsValueIn, KeepsConfirmer, KeepsNumber, KeepsReceipts, aid_list, leaves}
 pub use Rattle.card_core.specs.Deletes.{LeavesOthers, LeavesOwned, RemovesLoaded}
-pub use Rattle.card_core.specs.Domains.{ForEntry, is_domain_held, is_domain_in}
+pub use Rattle.card_core.specs.Domains.{is_domain_held, is_domain_in}
 pub use Rattle.card_core.specs.Installs.{slot_made}
 pub use Rattle.card_core.specs.Kept.{AreCards, ForKept, IsInSession, IsOffered, Kept, KeptRepresents, RepresentsChannels, RepresentsSecureChannel, RepresentsSome, held_on, held_passed, kept_live, kept_of, kept_set, without_offer_held}
 pub use Rattle.card_core.specs.Lists.{IsSameButPlace, IsShown, Lists}
@@ -114,7 +114,7 @@ pub use Rattle.policy_slots.specs.HoldersFound.{FindsConfirmer, IsReceipterIn, M
 pub use Rattle.policy_slots.specs.KeyOrder.{follows, is_past, name_order}
 pub use Rattle.policy_slots.specs.LiveEnds.{first_live, kept_of_others, live_with_block, live_with_channel, live_with_place, live_without_load, live_without_place}
 pub use Rattle.policy_slots.specs.ObjectsHeld.{has_object_in, is_tagged_in}
-pub use Rattle.policy_slots.specs.StateShown.{ActsIn, ForActing, ForActingLive, IsLoadNamed, IsSelectedIn, RepresentsState, place_of}
+pub use Rattle.policy_slots.specs.StateShown.{ActsIn, ForActing, ForActingLive, ForEntry, IsLoadNamed, IsSelectedIn, RepresentsState, place_of}
 pub use Rattle.rec_store.specs.Contents.{Contents, IsUnwritten}
 pub use Rattle.rec_store.specs.FirstSlots.{HasFirst}
 pub use Rattle.rec_store.specs.Keeper.{SameElse, key_pages}

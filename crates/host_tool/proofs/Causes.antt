@@ -13,7 +13,7 @@ use Rattle.line_runs.specs.declared.ending.LinesEnd.TheVariants as lines
 use Rattle.script_tool.specs.Workload.{SaysSome}
 use Rattle.line_runs.specs.Exit.{exit_status}
 use Rattle.host_tool.proofs.Reached.{Reached}
-use Rattle.host_tool.specs.Ends.{HasEnded, HasExchanged, HostCause, HostCourse, IsGoodScript, NoneRefused, Streams, Tells, flows}
+use Rattle.host_tool.specs.Ends.{HasEnded, HasExchanged, HostCause, HostCourse, IsGoodScript, NoneRefused, Streams, Tells, flow}
 use Rattle.host_tool.specs.Flush.{Flushed, HandedOn, HostFlushes}
 use Rattle.host_tool.specs.Ending.{host_ending}
 use Rattle.host_tool.specs.Takes.{Hosting, host_taker}
@@ -68,10 +68,10 @@ module _ (tells : Tells) (old mid : Streams) (course : HostCourse tells.script o
 -- after it
 module _ (writes : Type 0) (old : Streams) (script replies : SourceState) (commands now later : SinkState) where
   abbrev at_now : Streams
-  at_now = flows script replies commands now
+  at_now = flow script replies commands now
 
   abbrev at_last : Streams
-  at_last = flows script replies commands later
+  at_last = flow script replies commands later
 
   risen : now.faults ≡ old.transcript.faults → Rose now.faults later.faults → HostCause WriteFault old at_last
   risen same rose = inr (subst (λ (n : ℕ). Rose n later.faults) same rose)

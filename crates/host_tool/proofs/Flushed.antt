@@ -3,7 +3,7 @@ use Rattle.std.proofs.Common.{◌≡◌, ℕ, List, [], ap, subst, sym, ◌∙�
 use Rattle.faults.specs.Faults.{next_count}
 use Rattle.io_edge.specs.Streams.{SinkState, SourceState}
 use Rattle.host_tool.proofs.Reached.{Reached}
-use Rattle.host_tool.specs.Ends.{HasAsked, HasEnded, HostCourse, HostEndsAt, Streams, Tells, WroteWith, flows}
+use Rattle.host_tool.specs.Ends.{HasAsked, HasEnded, HostCourse, HostEndsAt, Streams, Tells, WroteWith, flow}
 use Rattle.host_tool.specs.Flush.{HostFlushes, Flushed, HandedOn}
 use Rattle.line_runs.specs.declared.exit.Ending.{Ending}
 use Rattle.line_runs.specs.declared.exit.Ending.TheVariants.{Finished, Differs, BadLine, Failed, ReadFault, WriteFault, InputTooLong}
@@ -11,10 +11,10 @@ use Rattle.line_runs.specs.declared.exit.Ending.TheVariants.{Finished, Differs, 
 module _ (tells : Tells) (old : Streams) (script replies : SourceState) (commands now later : SinkState)
     (course : HostCourse tells.script old.script.left script.left) (none : now.flushes ≡ old.transcript.flushes) where
   abbrev before : Streams
-  before = flows script replies commands now
+  before = flow script replies commands now
 
   abbrev after : Streams
-  after = flows script replies commands later
+  after = flow script replies commands later
 
   module _ (flushed : Flushed tells.transcript now later) where
     still_wrote : (more : List (List ℕ)) → WroteWith tells old before course more → WroteWith tells old after course more
@@ -59,6 +59,6 @@ module _ (tells : Tells) (old : Streams) (script replies : SourceState) (command
   pub flushed_at : (ending result : Ending) → Reached tells old before course ending → HostFlushes tells.transcript ending now later result
       → HostEndsAt tells old after course result
   flushed_at WriteFault result at (is, same) =
-      rw is (subst (λ (t : SinkState). HostEndsAt tells old (flows script replies commands t) course WriteFault) (sym same) (unflushed at))
+      rw is (subst (λ (t : SinkState). HostEndsAt tells old (flow script replies commands t) course WriteFault) (sym same) (unflushed at))
   flushed_at ending result at (flushed, inl (is, handed)) = rw is (handed_at flushed ending at handed)
   flushed_at ending result at (flushed, inr refused) = rw refused.0 (refused_at flushed ending at)

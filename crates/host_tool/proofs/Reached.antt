@@ -20,7 +20,7 @@ use Rattle.line_runs.specs.Exit.{ending_of}
 use Rattle.host_tool.proofs.Course.{lines_played}
 use Rattle.host_tool.proofs.Sent.{exchanged_none}
 use Rattle.host_tool.specs.Conveyed.{Conveyed, Exchanged, InVain, Unanswered}
-use Rattle.host_tool.specs.Ends.{HasAsked, HasCutCommands, HasCutText, HasEnded, HasExchanged, HostCourse, Next, Streams, Tells, WroteWith, before, flows, script_side, tells_of}
+use Rattle.host_tool.specs.Ends.{HasAsked, HasCutCommands, HasCutText, HasEnded, HasExchanged, HostCourse, Next, Streams, Tells, WroteWith, before, flow, script_side, tells_of}
 use Rattle.host_tool.specs.Exchange.{command_line, sent_by}
 use Rattle.host_tool.specs.Fault.{fault_text}
 use Rattle.host_tool.specs.Link.{sides_of}
@@ -46,7 +46,7 @@ module _ {S K : Type 0} (source : Source S) (sink : Sink K) (reads writes : Type
   tells = tells_of reads source.tells sink.tells writes
 
   abbrev new : Streams
-  new = flows script' (source.state last.link.replies) (sink.state last.link.commands) transcript'
+  new = flow script' (source.state last.link.replies) (sink.state last.link.commands) transcript'
 
   -- the first link has conveyed these events, and has not failed
   exchanged : (at : Hosting S K) (host : Host) (events : List Event) → HostStands at host

@@ -13,7 +13,7 @@ use Rattle.line_runs.specs.Exit.{exit_status}
 use Rattle.host_tool.proofs.Causes.{flush_keeps, flushed_cause, good_result, reached_cause, script_done}
 use Rattle.host_tool.proofs.Flushed.{flushed_at}
 use Rattle.host_tool.proofs.Reached.{Reached, host_course, lines_ended}
-use Rattle.host_tool.specs.Ends.{HostCause, HostEnds, NoneRefused, Streams, Tells, before, flows, script_side, tells_of}
+use Rattle.host_tool.specs.Ends.{HostCause, HostEnds, NoneRefused, Streams, Tells, before, flow, script_side, tells_of}
 use Rattle.host_tool.specs.Flush.{HostFlushes}
 use Rattle.host_tool.specs.Link.{sides_of}
 use Rattle.host_tool.specs.Ending.{host_ending}
@@ -31,12 +31,12 @@ module _ {S K : Type 0} (source : Source S) (sink : Sink K) (reads writes : Type
     (n m : ℕ) (cause : LinesEndCause end (fault_counts old.script.faults old.transcript.faults n) (fault_counts script.faults now.faults m))
     (result : Ending) (after : HostFlushes writes (host_ending end last.differs last.link.why) now later result) where
   abbrev new : Streams
-  new = flows script (source.state last.link.replies) (sink.state last.link.commands) later
+  new = flow script (source.state last.link.replies) (sink.state last.link.commands) later
 
   abbrev tells : Tells
   tells = tells_of reads source.tells sink.tells writes
 
-  reached : Reached tells old (flows script (source.state last.link.replies) (sink.state last.link.commands) now)
+  reached : Reached tells old (flow script (source.state last.link.replies) (sink.state last.link.commands) now)
       (host_course source sink reads writes old first last link_is stands alike script now ends.course) (host_ending end last.differs last.link.why)
   reached =
       lines_ended source sink reads writes old first last link_is stands alike script now ends.course end ends.ends ends.rests
@@ -45,7 +45,7 @@ module _ {S K : Type 0} (source : Source S) (sink : Sink K) (reads writes : Type
   host_cause : HostCause result old new
   host_cause =
       flushed_cause writes old script (source.state last.link.replies) (sink.state last.link.commands) now later (host_ending end last.differs last.link.why) result
-      (reached_cause tells old (flows script (source.state last.link.replies) (sink.state last.link.commands) now)
+      (reached_cause tells old (flow script (source.state last.link.replies) (sink.state last.link.commands) now)
       (host_course source sink reads writes old first last link_is stands alike script now ends.course) end last.differs last.link.why n m reached cause) after
 
   pub host_ends : (status : ℕ) → status ≡ exit_status result → HostEnds tells status old new

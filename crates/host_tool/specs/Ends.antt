@@ -28,8 +28,8 @@ pub record Streams : Type 0 where
   pub commands : SinkState
   pub transcript : SinkState
 
-abbrev pub flows : SourceState → SourceState → SinkState → SinkState → Streams
-flows script replies commands transcript = record { script = script; replies = replies; commands = commands; transcript = transcript }
+abbrev pub flow : SourceState → SourceState → SinkState → SinkState → Streams
+flow script replies commands transcript = record { script = script; replies = replies; commands = commands; transcript = transcript }
 
 -- which of them tell their bytes: a fact where one does, and `⊥` where it doesn't
 pub record Tells : Type 1 where

@@ -1,6 +1,6 @@
 //! A script that is played.
 
-ghost use Rattle.host_tool.specs.Ends.{IsOver, HostEnds, flows, tells_of};
+ghost use Rattle.host_tool.specs.Ends.{IsOver, HostEnds, flow, tells_of};
 ghost use Rattle.host_tool.specs.Flush.{HostFlushes};
 
 use crate::ended::Ended;
@@ -31,12 +31,12 @@ pub fn play_script<C: Source, S: Source, K: Sink, T: Sink>(
     transcript: &mut T,
 ) -> Ended<S, K>
     ensures ends { HostEnds (tells_of C.tells S.tells K.tells T.tells) result.status
-        (flows (C.state script.old) (S.state replies) (K.state commands) (T.state transcript.old))
-        (flows (C.state script.new) (S.state result.replies) (K.state result.commands) (T.state transcript.new)) }
+        (flow (C.state script.old) (S.state replies) (K.state commands) (T.state transcript.old))
+        (flow (C.state script.new) (S.state result.replies) (K.state result.commands) (T.state transcript.new)) }
 
     ensures complete { IsOver (tells_of C.tells S.tells K.tells T.tells) result.status
-        (flows (C.state script.old) (S.state replies) (K.state commands) (T.state transcript.old))
-        (flows (C.state script.new) (S.state result.replies) (K.state result.commands) (T.state transcript.new)) }
+        (flow (C.state script.old) (S.state replies) (K.state commands) (T.state transcript.old))
+        (flow (C.state script.new) (S.state result.replies) (K.state result.commands) (T.state transcript.new)) }
 {
     let mut host = ScriptHost::new(replies, commands);
     let end = take_lines(&mut host, script, transcript);

@@ -1,7 +1,7 @@
 //! The top call.
 
 ghost use Rattle.std.specs.Prelude.{◌≡◌};
-ghost use Rattle.host_tool.specs.Ends.{IsOver, flows, tells_of};
+ghost use Rattle.host_tool.specs.Ends.{IsOver, flow, tells_of};
 ghost use Rattle.host_tool.specs.Words.{EndsInText, EndsPlay, IsOneWord, host_usage};
 
 use crate::command_line::hand_on;
@@ -42,12 +42,12 @@ pub fn gp_host<C: ScriptFile, S: Source, K: Sink, T: Sink>(
 
     // One word: the file with that name was not opened, or its script was played up to an ending.
     ensures played { IsOneWord words.now → EndsPlay (tells_of C.tells S.tells K.tells T.tells) result.status
-        (flows (C.state script.old) (S.state replies) (K.state commands) (T.state transcript.old))
-        (flows (C.state script.new) (S.state result.replies) (K.state result.commands) (T.state transcript.new)) }
+        (flow (C.state script.old) (S.state replies) (K.state commands) (T.state transcript.old))
+        (flow (C.state script.new) (S.state result.replies) (K.state result.commands) (T.state transcript.new)) }
 
     ensures complete { IsOneWord words.now → IsOver (tells_of C.tells S.tells K.tells T.tells) result.status
-        (flows (C.state script.old) (S.state replies) (K.state commands) (T.state transcript.old))
-        (flows (C.state script.new) (S.state result.replies) (K.state result.commands) (T.state transcript.new)) }
+        (flow (C.state script.old) (S.state replies) (K.state commands) (T.state transcript.old))
+        (flow (C.state script.new) (S.state result.replies) (K.state result.commands) (T.state transcript.new)) }
 {
     match words {
         [name] => match script.open(name.as_str()) {

@@ -26,8 +26,8 @@ pub record LeavesOnly {F : Type 0} (device : Flash F) (old new : F) (P : List Pa
   pub before : (t : ℕ) (outcome : List Page) → t ≤ device.moment old → device.left_since new t outcome → device.left_since old t outcome ⊎ P outcome
 
 -- the committed pages of a list, or all those of another
-abbrev pub LeavesEitherList : (ℕ → Option Page) → List ℕ → (ℕ → Option Page) → List Page → Type 0
-LeavesEitherList before loose after outcome = Leaves before loose outcome ⊎ Leaves after [] outcome
+abbrev pub LeavesPages : (ℕ → Option Page) → List ℕ → (ℕ → Option Page) → List Page → Type 0
+LeavesPages before loose after outcome = Leaves before loose outcome ⊎ Leaves after [] outcome
 
 -- the first of the two that is there
 abbrev pub first_of : Option Page → Option Page → Option Page

@@ -7,7 +7,7 @@ ghost use Rattle.flash_core.specs.Device.{Only};
 ghost use Rattle.frame_pool.specs.Staged.{AreDistinct};
 ghost use Rattle.frame_pool.specs.declared.pool.TheConstants.{FRAMES};
 ghost use Rattle.page_journal.specs.Journal.{is_open, stored_page, IsValid};
-ghost use Rattle.page_journal.specs.Moments.{Always, LeavesEitherList, LeavesOnly, Leaves, current};
+ghost use Rattle.page_journal.specs.Moments.{Always, LeavesPages, LeavesOnly, Leaves, current};
 ghost use Rattle.page_journal.specs.Store.{AreStorePages, SameBelow, StandsForList};
 ghost use Rattle.page_journal.specs.declared.pages.TheConstants.{DESCRIPTOR};
 
@@ -25,7 +25,7 @@ pub fn commit_pages<F: Flash>(flash: &mut F, pool: &FramePool) -> Result<(), Fla
     requires calm { F.tells → Always (F.may_leave flash.old) (SameBelow (F.pages flash.old)) }
     ensures moments { F.tells → (loose : List ℕ) → Always (F.may_leave flash.old) (Leaves (stored_page (F.pages flash.old)) loose)
         → LeavesOnly F.Flash flash.old flash.new
-        (LeavesEitherList (stored_page (F.pages flash.old)) loose (current pool.now (F.pages flash.old))) }
+        (LeavesPages (stored_page (F.pages flash.old)) loose (current pool.now (F.pages flash.old))) }
     ensures list { F.tells → OnOk result (StandsForList (current pool.now (F.pages flash.old)) (F.pages flash.new)) }
     ensures only { F.tells → OnOk result (Only (F.pages flash.new) (F.may_leave flash.new)) }
     ensures shut { F.tells → OnOk result (is_open (F.pages flash.new) ≡ false) }

@@ -7,7 +7,7 @@ ghost use Rattle.flash_core.specs.Device.{NoneNew, SameBut, Only};
 ghost use Rattle.frame_pool.specs.Staged.{staged_at, with_page};
 ghost use Rattle.frame_pool.specs.declared.pool.TheConstants.{FRAMES};
 ghost use Rattle.page_journal.specs.Journal.{HasValidJournal, IsValid, is_open, stored_page};
-ghost use Rattle.page_journal.specs.Moments.{Always, LeavesEitherList, LeavesOnly, Leaves, current};
+ghost use Rattle.page_journal.specs.Moments.{Always, LeavesPages, LeavesOnly, Leaves, current};
 ghost use Rattle.page_journal.specs.Pages.{IsLoadPage, IsStorePage};
 ghost use Rattle.page_journal.specs.Store.{StandsForList, HasJournal, CauseHolds, MountFails};
 
@@ -185,7 +185,7 @@ impl<F: Flash> PageStore<F> {
         // At every moment power lost leaves the committed pages from before or those after.
         ensures moments { F.tells → (loose : List ℕ) → Always (F.may_leave self.old.flash) (Leaves (stored_page (F.pages self.old.flash)) loose)
             → LeavesOnly F.Flash self.old.flash self.new.flash
-            (LeavesEitherList (stored_page (F.pages self.old.flash)) loose (current self.old.staged (F.pages self.old.flash))) }
+            (LeavesPages (stored_page (F.pages self.old.flash)) loose (current self.old.staged (F.pages self.old.flash))) }
         ensures list { F.tells → OnOk result (StandsForList (current self.old.staged (F.pages self.old.flash)) (F.pages self.new.flash)) }
         ensures only { F.tells → 0 < length self.old.staged → OnOk result (Only (F.pages self.new.flash) (F.may_leave self.new.flash)) }
         ensures idle { self.old.staged ≡ [] → IsOk result × (self.new ≡ self.old) }

@@ -54,5 +54,5 @@ pub use Rattle.policy_rules.specs.Requests.{Decodes, IsJudgedAfter, IsMeant, IsR
 pub use Rattle.policy_rules.specs.SetStatusRequests.{IsCardStatusOf, IsChangeFor, IsEntryStatusOf, IsEntryStatusRequest, IsOther, IsSlotStep, IsStepBy, MaySet, MayStep, slot_of}
 pub use Rattle.policy_slots.specs.KeyOrder.{UsesSetOfKey, follows, holds_counter_but, keeps_counter_of}
 pub use Rattle.policy_slots.specs.ObjectsHeld.{has_object_in, is_tagged_in}
-pub use Rattle.policy_slots.specs.StateShown.{ActsAsBefore, ActsIn, ForActingLive, IsSelectedIn, RepresentsState, TellsCard, place_of}
+pub use Rattle.policy_slots.specs.StateShown.{ActsAsBefore, ActsIn, ForActingLive, ForSound, IsSelectedIn, RepresentsState, TellsCard, place_of}
 pub use Rattle.scp03_card.specs.Offer.{counter_bytes}

@@ -1,7 +1,7 @@
 //! The first of a command's own rules that fails.
 
-ghost use Rattle.std.specs.Prelude.{◌≡◌, ◌<◌, ℕ, List, None, IsSome, slice_index_or};
-ghost use Rattle.policy_rules.specs.Prelude.{ActsAsBefore, Admitted, Apdu, IsFirst, IsInOrder, IsJudgedAfter, IsMeant, IsRequestOf, IsSound, Judges, LoadFails, RepresentsState, TellsChecks, front_rules};
+ghost use Rattle.std.specs.Prelude.{◌≡◌, ◌<◌, List, None, IsSome, slice_index_or};
+ghost use Rattle.policy_rules.specs.Prelude.{ActsAsBefore, Apdu, ForSound, IsFirst, IsInOrder, IsJudgedAfter, IsMeant, IsRequestOf, Judges, LoadFails, TellsChecks, front_rules};
 ghost use Rattle.policy_machine.specs.declared.instruction.TheConstants.{EXTERNAL_AUTHENTICATE, GET_STATUS, LOAD};
 
 use crate::card_status::judge_card_status;
@@ -37,13 +37,12 @@ pub fn judge(
     requires channel { channel < CHANNELS }
     requires opened { IsSome (slice_index_or live.now.selected channel None) }
     requires meant { IsMeant request.now }
-    ensures judged { (page : ℕ → List ℕ) (admitted : Admitted) → RepresentsState page tables.now live.now admitted.at → IsSound admitted.at → channel ≡ admitted.channel
-        → IsRequestOf request.now admitted.command → IsJudgedAfter admitted.command.ins
-        → TellsChecks checks_fit admitted → Judges admitted result }
-    ensures listed { (page : ℕ → List ℕ) (admitted : Admitted) → RepresentsState page tables.now live.now admitted.before → IsSound admitted.before → channel ≡ admitted.channel
-        → ActsAsBefore admitted → IsRequestOf request.now admitted.command → admitted.command.ins ≡ GET_STATUS → Judges admitted result }
-    ensures numbered { (page : ℕ → List ℕ) (admitted : Admitted) → RepresentsState page tables.now live.now admitted.at → IsSound admitted.at → channel ≡ admitted.channel
-        → IsRequestOf request.now admitted.command → admitted.command.ins ≡ LOAD → IsFirst (LoadFails admitted) front_rules result }
+    ensures judged { ForSound tables.now live.now channel (λ admitted. admitted.at) (λ admitted. IsRequestOf request.now admitted.command
+        → IsJudgedAfter admitted.command.ins → TellsChecks checks_fit admitted → Judges admitted result) }
+    ensures listed { ForSound tables.now live.now channel (λ admitted. admitted.before) (λ admitted. ActsAsBefore admitted
+        → IsRequestOf request.now admitted.command → admitted.command.ins ≡ GET_STATUS → Judges admitted result) }
+    ensures numbered { ForSound tables.now live.now channel (λ admitted. admitted.at) (λ admitted. IsRequestOf request.now admitted.command
+        → admitted.command.ins ≡ LOAD → IsFirst (LoadFails admitted) front_rules result) }
     ensures elsewhere { (command : Apdu) → IsRequestOf request.now command → command.ins ≡ EXTERNAL_AUTHENTICATE → result ≡ None }
 {
     let domain = live.selected[usize::from(channel)].unwrap();

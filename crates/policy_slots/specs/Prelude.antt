@@ -29,5 +29,5 @@ pub use Rattle.policy_slots.specs.HoldersFound.{FindsConfirmer, FindsReceipter, 
 pub use Rattle.policy_slots.specs.KeyOrder.{UsesSetOfKey, follows, has_set_in, holds_counter_of, is_past, keeps_counter_of, keeps_counter_with, name_order, version_order}
 pub use Rattle.policy_slots.specs.ObjectsHeld.{has_object_in, is_tagged_in}
 pub use Rattle.policy_slots.specs.RequestJudged.{IsBroughtFor, IsTokenForm, OwnRefuses, receipt_rules}
-pub use Rattle.policy_slots.specs.StateShown.{ActsIn, ForActing, IsSelectedIn, RepresentsState, TellsCard}
+pub use Rattle.policy_slots.specs.StateShown.{ActsIn, ForActing, ForEntry, IsSelectedIn, RepresentsState, TellsCard}
 pub use Rattle.tokens_receipts.specs.Token.{token}

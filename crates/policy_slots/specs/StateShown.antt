@@ -1,12 +1,14 @@
 -- How what the code keeps says the state of a card, as far as the rules look.
 use Rattle.std.specs.Option.{option_map}
 use Rattle.std.specs.Prelude.{◌≡◌, ℕ, ◌<◌, List, Option, None, Some, slice_index_or, ◌↔◌, Bool, IsTrue, length}
+use Rattle.card_types.specs.Registry.{Registry}
 use Rattle.card_types.specs.Represents.{Represents, domain_aid, thing_in}
 use Rattle.card_types.specs.Well.{Well}
 use Rattle.card_types.specs.declared.tables.Entry.{Entry}
 use Rattle.card_types.specs.declared.tables.Tables.{Tables}
 use Rattle.policy_machine.specs.Admission.{Admitted}
 use Rattle.policy_machine.specs.Management.{acting}
+use Rattle.policy_machine.specs.Sound.{IsSound}
 use Rattle.policy_machine.specs.State.{Place, State, Channel, LoadSession, channel_at, place_in, selected_on}
 use Rattle.policy_machine.specs.declared.channels.TheConstants.{CHANNELS}
 use Rattle.policy_slots.specs.declared.live.Live.{Live}
@@ -70,6 +72,18 @@ ForActing tables domain So = (page : ℕ → List ℕ) (admitted : Admitted) →
 abbrev pub ForActingLive : Tables → Live → ℕ → ((ℕ → List ℕ) → Admitted → Type 0) → Type 0
 ForActingLive tables live domain So =
     ForActing tables domain (λ page admitted. RepresentsState page tables live admitted.at → length admitted.at.volatile.channels ≡ CHANNELS → So page admitted)
+
+-- `So` holds of each command on the channel, where the tables and what is kept beside them say a sound state: that before the command
+-- or that at it, as `state` picks.
+abbrev pub ForSound : Tables → Live → ℕ → (Admitted → State) → (Admitted → Type 0) → Type 0
+ForSound tables live channel state So =
+    (page : ℕ → List ℕ) (admitted : Admitted) → RepresentsState page tables live (state admitted) → IsSound (state admitted) → channel ≡ admitted.channel → So admitted
+
+-- `So` holds of the AID of the entry in a slot, in any well registry that the tables represent.
+abbrev pub ForEntry : Tables → ℕ → (Registry → List ℕ → Type 0) → Type 0
+ForEntry tables slot So =
+    (page : ℕ → List ℕ) (said : Registry) (entry : Entry) → Represents page tables said → Well said
+    → thing_in tables.entries.items slot ≡ Some entry → So said (domain_aid tables.entries.items slot)
 
 -- what tells whether a SET STATUS sets the card's own life cycle state
 abbrev pub TellsCard : Bool → Admitted → Type 0

@@ -1,9 +1,8 @@
 //! Which key sets a session uses.
 
 ghost use Rattle.std.specs.Prelude.{◌≡◌, ℕ, List, Some, true, IfSome, IfNone};
-ghost use Rattle.policy_slots.specs.Prelude.{IsInOrder, NoSetToUse, OwnsSets, Registry, Represents, UsesSetOfKey, Well, domain_aid, has_set_in, holds_counter_of, thing_in};
+ghost use Rattle.policy_slots.specs.Prelude.{ForEntry, IsInOrder, NoSetToUse, OwnsSets, UsesSetOfKey, domain_aid, has_set_in, holds_counter_of, thing_in};
 ghost use Rattle.card_types.specs.Represents.{keeps_counter as keeps_counter_by};
-ghost use Rattle.card_types.specs.declared.tables.Entry.{Entry};
 
 use crate::key_order::{keeps_counter, lowest_set, numbered_set};
 use card_types::{InSlot, KeyRec, Tables};
@@ -43,12 +42,8 @@ fn holds_counter(owner: u8, held: &Option<KeyRec>) -> bool
 /// the nearest domain above it that has one.
 fn set_owner(tables: &Tables, domain: u8) -> Option<u8>
     requires in_order { IsInOrder tables.now }
-    ensures some { (page : ℕ → List ℕ) (said : Registry) (entry : Entry) → Represents page tables.now said → Well said
-        → thing_in tables.now.entries.items domain ≡ Some entry
-        → IfSome result (λ owner. OwnsSets said (domain_aid tables.now.entries.items domain) (domain_aid tables.now.entries.items owner)) }
-    ensures none { (page : ℕ → List ℕ) (said : Registry) (entry : Entry) → Represents page tables.now said → Well said
-        → thing_in tables.now.entries.items domain ≡ Some entry
-        → IfNone result ((owner : List ℕ) → OwnsSets said (domain_aid tables.now.entries.items domain) owner → ⊥) }
+    ensures some { ForEntry tables.now domain (λ said aid. IfSome result (λ owner. OwnsSets said aid (domain_aid tables.now.entries.items owner))) }
+    ensures none { ForEntry tables.now domain (λ said aid. IfNone result ((owner : List ℕ) → OwnsSets said aid owner → ⊥)) }
     ensures has_set { IfSome result (λ owner. has_set_in tables.now.keys.items owner ≡ true) }
 {
     if has_set(&tables.keys, domain) {
@@ -64,12 +59,8 @@ pub fn session_set(tables: &Tables, domain: u8, version: u8) -> Option<InSlot<'_
     requires in_order { IsInOrder tables.now }
     ensures held { IfSome result (λ found. thing_in tables.now.keys.items found.slot ≡ Some found.thing.now) }
     ensures counts { IfSome result (λ found. keeps_counter_by found.thing.now ≡ true) }
-    ensures some { (page : ℕ → List ℕ) (said : Registry) (entry : Entry) → Represents page tables.now said → Well said
-        → thing_in tables.now.entries.items domain ≡ Some entry
-        → IfSome result (λ found. UsesSetOfKey tables.now.entries.items said domain version found.thing.now) }
-    ensures none { (page : ℕ → List ℕ) (said : Registry) (entry : Entry) → Represents page tables.now said → Well said
-        → thing_in tables.now.entries.items domain ≡ Some entry
-        → IfNone result (NoSetToUse said (domain_aid tables.now.entries.items domain) version) }
+    ensures some { ForEntry tables.now domain (λ said aid. IfSome result (λ found. UsesSetOfKey tables.now.entries.items said domain version found.thing.now)) }
+    ensures none { ForEntry tables.now domain (λ said aid. IfNone result (NoSetToUse said aid version)) }
 {
     let owner = set_owner(tables, domain)?;
     if version == 0 {

@@ -1,7 +1,7 @@
 use Rattle.std.proofs.Common.{ap, sym, subst, ◌∙◌}
 use Rattle.host_tool.proofs.Causes.{good_script}
 use Rattle.host_tool.proofs.WholeRuns.{host_done, host_ends}
-use Rattle.host_tool.specs.Ends.{HostEnds, NoneRefused, flows, tells_of}
+use Rattle.host_tool.specs.Ends.{HostEnds, NoneRefused, flow, tells_of}
 use Rattle.host_tool.specs.Flush.{HostFlushes}
 use Rattle.host_tool.specs.Link.{Linked, sides_of}
 use Rattle.host_tool.specs.Ending.{host_ending}
@@ -10,12 +10,12 @@ use Rattle.host_tool.proofs.play.play_script.Goals as goal
 
 pub returns-clause-ends : goal.returns-clause-ends
 returns-clause-ends g c =
-    let old = flows (g.C.Source.state c.args.script.now) (g.S.Source.state c.args.replies) (g.K.Sink.state c.args.commands) (g.T.Sink.state c.args.transcript.now) in
+    let old = flow (g.C.Source.state c.args.script.now) (g.S.Source.state c.args.replies) (g.K.Sink.state c.args.commands) (g.T.Sink.state c.args.transcript.now) in
     let link = c.new-host.ensures.link in
     subst
     (λ (p : g.row.S.Denot × g.row.K.Denot).
     HostEnds (tells_of g.C.Source.tells g.S.Source.tells g.K.Sink.tells g.T.Sink.tells) c.status-status.result old
-    (flows (g.C.Source.state c.take_lines-end.new.source) (g.S.Source.state p.0) (g.K.Sink.state p.1) (g.T.Sink.state c.flush_at_end.new.sink)))
+    (flow (g.C.Source.state c.take_lines-end.new.source) (g.S.Source.state p.0) (g.K.Sink.state p.1) (g.T.Sink.state c.flush_at_end.new.sink)))
     (sym c.into_streams-replies.ensures)
     (host_ends g.S.Source g.K.Sink g.C.Source.tells g.T.Sink.tells old c.new-host.result c.take_lines-end.new.taker
     (ap (λ (l : Linked g.row.S.Denot g.row.K.Denot). sides_of g.S.Source g.K.Sink l) link)
@@ -32,7 +32,7 @@ returns-clause-ends g c =
 
 pub returns-clause-complete : goal.returns-clause-complete
 returns-clause-complete g c told good faultless =
-    let old = flows (g.C.Source.state c.args.script.now) (g.S.Source.state c.args.replies) (g.K.Sink.state c.args.commands) (g.T.Sink.state c.args.transcript.now) in
+    let old = flow (g.C.Source.state c.args.script.now) (g.S.Source.state c.args.replies) (g.K.Sink.state c.args.commands) (g.T.Sink.state c.args.transcript.now) in
     let link = c.new-host.ensures.link in
     let complete = c.take_lines-end.ensures.complete told (good_script g.S.Source g.K.Sink c.new-host.result (g.C.Source.state c.args.script.now).left good) in
     host_done g.S.Source g.K.Sink g.C.Source.tells g.T.Sink.tells old c.new-host.result c.take_lines-end.new.taker
@@ -49,5 +49,5 @@ returns-clause-complete g c told good faultless =
     c.status-status.result c.status-status.ensures complete.0 complete.1
     (subst
     (λ (p : g.row.S.Denot × g.row.K.Denot).
-    NoneRefused old (flows (g.C.Source.state c.take_lines-end.new.source) (g.S.Source.state p.0) (g.K.Sink.state p.1) (g.T.Sink.state c.flush_at_end.new.sink)))
+    NoneRefused old (flow (g.C.Source.state c.take_lines-end.new.source) (g.S.Source.state p.0) (g.K.Sink.state p.1) (g.T.Sink.state c.flush_at_end.new.sink)))
     c.into_streams-replies.ensures faultless)

@@ -4,7 +4,7 @@ use Rattle.flash_core.specs.Device.{Only}
 use Rattle.flash_core.specs.declared.page.Page.{Page}
 use Rattle.frame_pool.specs.Staged.{with_page}
 use Rattle.page_journal.specs.Journal.{stored_page}
-use Rattle.page_journal.specs.Moments.{Always, Leaves, LeavesEitherList, LeavesOnly, current}
+use Rattle.page_journal.specs.Moments.{Always, Leaves, LeavesPages, LeavesOnly, current}
 use Rattle.page_journal.specs.Store.{StandsForList, Store}
 use Rattle.rec_store.specs.Reopens.{KeepsRegistry, Reopens, load_page}
 use Rattle.rec_store.proofs.Leaving.{weaker}
@@ -43,7 +43,7 @@ returns-clause-keeps g c told registry was =
     let page : Page = record { bytes = c.superblock.result } in
     let is = alone s0 c.stage.new.self page c.requires.none c.stage.ensures in
     let kept = still_keeps old (F.may_leave s0.flash) registry (c.requires.only told) was in
-    let moments = subst (λ (s : Store g.row.F.Denot). Always (F.may_leave s.flash) (Leaves (stored_page (F.pages s.flash)) kept.loose) → LeavesOnly F s.flash new (LeavesEitherList (stored_page (F.pages s.flash)) kept.loose (current s.staged (F.pages s.flash)))) is
+    let moments = subst (λ (s : Store g.row.F.Denot). Always (F.may_leave s.flash) (Leaves (stored_page (F.pages s.flash)) kept.loose) → LeavesOnly F s.flash new (LeavesPages (stored_page (F.pages s.flash)) kept.loose (current s.staged (F.pages s.flash)))) is
     (c.commit.ensures.moments told kept.loose) kept.leaves in
     let now = now_left F s0.flash new (OldOrRaised old page c.args.layout c.args.life (c.requires.superblock told) c.superblock.ensures (F.may_leave s0.flash) registry kept) moments told g.met.F.Flash.counts_now (F.pages new) (g.met.F.Flash.as_read new told) in
     on_ok c.commit.result (StandsForList (current (pool old page) old) (F.pages new) × Only (F.pages new) (F.may_leave new)) (KeepsRegistry F new registry)
@@ -61,7 +61,7 @@ returns-clause-moments g c told registry was =
     let page : Page = record { bytes = c.superblock.result } in
     let is = alone s0 c.stage.new.self page c.requires.none c.stage.ensures in
     let kept = still_keeps old (F.may_leave s0.flash) registry (c.requires.only told) was in
-    let moments = subst (λ (s : Store g.row.F.Denot). Always (F.may_leave s.flash) (Leaves (stored_page (F.pages s.flash)) kept.loose) → LeavesOnly F s.flash new (LeavesEitherList (stored_page (F.pages s.flash)) kept.loose (current s.staged (F.pages s.flash)))) is
+    let moments = subst (λ (s : Store g.row.F.Denot). Always (F.may_leave s.flash) (Leaves (stored_page (F.pages s.flash)) kept.loose) → LeavesOnly F s.flash new (LeavesPages (stored_page (F.pages s.flash)) kept.loose (current s.staged (F.pages s.flash)))) is
     (c.commit.ensures.moments told kept.loose) kept.leaves in
     weaker F s0.flash new (OldOrRaised old page c.args.layout c.args.life (c.requires.superblock told) c.superblock.ensures (F.may_leave s0.flash) registry kept) (λ outcome. Reopens outcome registry) moments
     (one_registry old page c.args.layout c.args.life (c.requires.superblock told) c.superblock.ensures (F.may_leave s0.flash) registry kept)
