@@ -2,7 +2,7 @@
 
 ghost use Rattle.std.specs.Prelude.{◌≡◌, ◌+◌, MatchOption};
 ghost use Rattle.access_matrix.specs.Kinds.{kind_number};
-ghost use Rattle.access_matrix.specs.Rights as rights;
+ghost use Rattle.access_matrix.specs.Rights.{deed_kind};
 
 use crate::deed::Deed;
 
@@ -20,7 +20,7 @@ pub enum Kind {
 impl Kind {
     /// The kind of a deed.
     pub fn of(deed: &Deed) -> Kind
-        ensures { kind_number result ≡ rights.deed_kind deed.now }
+        ensures { kind_number result ≡ deed_kind deed.now }
     {
         match deed {
             Deed::Delete(_) => Kind::Delete,

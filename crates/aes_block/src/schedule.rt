@@ -1,6 +1,6 @@
 // The key schedule.
 
-ghost use Rattle.std.specs.Prelude.{◌≡◌, ℕ, ◌+◌, ◌-◌, ◌*◌, ◌/◌, ◌<◌, ◌≤◌, length};
+ghost use Rattle.std.specs.Prelude.{◌≡◌, ◌+◌, ◌-◌, ◌*◌, ◌/◌, ◌<◌, ◌≤◌, length};
 ghost use Rattle.aes_block.specs.Cipher.{IsAesKeyLength};
 ghost use Rattle.aes_block.specs.Words.{key_word, key_words, schedule_core, sub_word};
 

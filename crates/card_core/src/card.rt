@@ -28,7 +28,7 @@ pub struct Card<F: Flash> {
 
 // Contracts see the device, the tables, what is kept of the channels, and whether no call on the device has failed.
 impl<F: Flash> Model for Card<F> {
-    ghost use Rattle.std.specs.Prelude.{◌≡◌, [], true};
+    ghost use Rattle.std.specs.Prelude.{◌≡◌, true};
     ghost use Rattle.card_core.specs.Card.{CardOver};
     ghost use Rattle.card_core.specs.Kept.{AreCards, RepresentsSome, kept_of};
     ghost use Rattle.card_core.specs.Loading.{IsIdle};

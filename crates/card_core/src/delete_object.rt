@@ -5,7 +5,6 @@ ghost use Rattle.std.specs.Prelude.{◌≡◌, ◌≢◌, ℕ, List, [], true, I
 ghost use Rattle.std.proofs.Common.{inl, inr, refl};
 ghost use Rattle.card_core.specs.Prelude.{AreCards, HasFramesFor, HasNoneFrom, IsAlone, IsRemovable, KeepsFree, LeavesOthers, Registry, RemovesLoaded, Represents, Well, aid_of, entry_pages, file_aid, managed_delete_object, of_form, thing_in, without_applications, without_file, without_thing};
 ghost use Rattle.card_types.specs.declared.factory.TheConstants.{FACTORY_FILE};
-ghost use Rattle.policy_rules.specs.declared.request.Request.TheVariants.{DeleteObject};
 
 use crate::confirm::Aids;
 use crate::confirmed_request::ConfirmedRequest;

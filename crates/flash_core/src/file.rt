@@ -1,7 +1,7 @@
 //! A file as a device: the edge that is trusted to keep what is written.
 
-ghost use Rattle.std.specs.Prelude.{◌≡◌, ◌+◌, ◌*◌, ◌<◌, ◌≤◌, ℕ, List, [], length, IfOk, OnOk, OnErr};
-ghost use Rattle.faults.specs.Faults.{HasCause, next_count};
+ghost use Rattle.std.specs.Prelude.{◌≡◌, ◌+◌, ◌*◌, ◌<◌, ℕ, []};
+ghost use Rattle.faults.specs.Faults.{HasCause};
 
 use crate::flash::{Flash, FlashFailed};
 use crate::page::{PAGES, Page};

@@ -1,6 +1,6 @@
 //! A device in memory.
 
-ghost use Rattle.std.specs.Prelude.{◌≡◌, ◌↔◌, ◌<◌, ◌≤◌, ◌++◌, List, [], ◌∷◌, ℕ, Some, None, true, false, length, replicate, slice_get, slice_index, slice_set, vec_len, vec_capacity, IsErr, IsOk, IfOk, OnOk, OnErr};
+ghost use Rattle.std.specs.Prelude.{◌≡◌, ◌↔◌, ◌<◌, ◌≤◌, ◌++◌, [], ◌∷◌, Some, true, false, length, replicate, slice_get, vec_len, vec_capacity, IsErr, IsOk, IfOk, OnOk, OnErr};
 ghost use Rattle.faults.specs.Faults.{HasCause, next_count};
 ghost use Rattle.flash_core.specs.Device.{SameBut, NoneNew, AnyBytesIn, Only, Elapses};
 ghost use Rattle.flash_core.specs.Memory.{cut_page as cut_page_of, CutBy, uniform_page};

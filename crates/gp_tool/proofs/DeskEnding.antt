@@ -2,8 +2,7 @@
 use Rattle.std.proofs.Common.{◌≡◌, ◌⊎◌, ◌≤◌, ℕ, arith, Bool, true, false, refl, ap, subst, ◌∙◌, inl, inr}
 use Rattle.faults.specs.Faults.{Rose}
 use Rattle.io_edge.specs.Streams.{SinkState, SourceState}
-use Rattle.line_runs.specs.Ends.{Faults, IsCutOff, LinesCourse, LinesEndAt, left_at}
-use Rattle.line_runs.specs.Ends as lines_ends
+use Rattle.line_runs.specs.Ends.{Faults, IsCutOff, LinesCourse, LinesEndAt, LinesEndCause, fault_counts, left_at}
 use Rattle.line_runs.specs.Outside.{Outside, outside}
 use Rattle.line_runs.specs.Taker.{Taker}
 use Rattle.line_runs.specs.declared.ending.LinesEnd.{LinesEnd}
@@ -25,7 +24,7 @@ left_finished writes old new course lines.Failed at is = cc is
 left_finished writes old new course _ at is = refl
 
 -- whose faults the lines ended with are those that the program ends with
-pub lines_cause : (end : LinesEnd) (differs : Bool) (source source' sink sink' : ℕ) → lines_ends.LinesEndCause end (lines_ends.fault_counts source sink 0) (lines_ends.fault_counts source' sink' 0)
+pub lines_cause : (end : LinesEnd) (differs : Bool) (source source' sink sink' : ℕ) → LinesEndCause end (fault_counts source sink 0) (fault_counts source' sink' 0)
     → EndCause (ending_of_lines end differs) (around source sink 0) (around source' sink' 0)
 lines_cause lines.Finished false source source' sink sink' same = (ap (λ (f : Faults). f.source) same, ap (λ (f : Faults). f.sink) same)
 lines_cause lines.Finished true source source' sink sink' same = (ap (λ (f : Faults). f.source) same, ap (λ (f : Faults). f.sink) same)

@@ -1,6 +1,6 @@
 //! The lines that are written.
 
-ghost use Rattle.std.specs.Prelude.{◌≡◌, ◌≤◌, ◌<◌, ◌*◌, ◌+◌, ◌++◌, [], ℕ, length, take, OnOk, OnErr};
+ghost use Rattle.std.specs.Prelude.{◌≡◌, ◌≤◌, ◌<◌, ◌*◌, ◌+◌, ◌++◌, ℕ, length, take, OnOk, OnErr};
 ghost use Rattle.gp_tool.specs.Prelude.{HasCause, line_end, encode_lower, reason};
 
 use arrayvec::ArrayVec;

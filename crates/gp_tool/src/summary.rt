@@ -1,6 +1,6 @@
 //! The summary of a workload.
 
-ghost use Rattle.std.specs.Prelude.{◌≡◌, ◌≤◌, ◌+◌, ◌++◌, [], ℕ, List, length, take, OnOk, OnErr};
+ghost use Rattle.std.specs.Prelude.{◌≡◌, ◌≤◌, ◌+◌, ◌++◌, ℕ, List, length, take, OnOk, OnErr};
 ghost use Rattle.gp_tool.specs.Prelude.{AreCards, HasCause, HasPages, IsCounterText, IsInOrder, Registry, Represents, Well, array_vec_len, count_line, summary, workload_line};
 
 use crate::tally::Tally;

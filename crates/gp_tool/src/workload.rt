@@ -1,6 +1,6 @@
 //! Which workload the words name.
 
-ghost use Rattle.std.specs.Prelude.{◌≡◌, ◌<◌, ◌≤◌, ◌^◌, ◌↔◌, ℕ, List, IsTrue, MatchOption, string_bytes};
+ghost use Rattle.std.specs.Prelude.{◌<◌, ◌≤◌, ◌^◌, ◌↔◌, ℕ, IsTrue, MatchOption, string_bytes};
 ghost use Rattle.gp_tool.specs.Mill.{IsNumber, NameWorkload};
 
 use crate::bytes::begins_with;

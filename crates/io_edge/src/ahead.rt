@@ -1,6 +1,6 @@
 //! What stands ahead of a reading.
 
-ghost use Rattle.std.specs.Prelude.{◌≡◌, ◌<◌, ◌≤◌, ◌+◌, ◌*◌, ◌++◌, List, [], ℕ, length, take, Option, None, Some, Ok, IfOk, OnErr, slice_index, MatchOption};
+ghost use Rattle.std.specs.Prelude.{◌≡◌, ◌<◌, ◌≤◌, ◌+◌, ◌++◌, [], length, take, Option, Some, Ok, IfOk, OnErr, slice_index, MatchOption};
 ghost use Rattle.std.specs.Str.Lines.{strip_carriage_return};
 ghost use Rattle.faults.specs.Faults.{HasCause};
 ghost use Rattle.io_edge.specs.Lines.{NoNewline};

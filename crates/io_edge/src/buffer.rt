@@ -1,6 +1,6 @@
 //! Bytes that were taken from a source and are not given yet.
 
-ghost use Rattle.std.specs.Prelude.{◌≡◌, ◌<◌, ◌≤◌, ◌+◌, ◌-◌, ◌*◌, ◌++◌, List, [], ℕ, length, take, drop, slice_range, OnErr, IfOk, IsErr, Ok};
+ghost use Rattle.std.specs.Prelude.{◌≡◌, ◌<◌, ◌≤◌, ◌+◌, ◌-◌, ◌*◌, ◌++◌, [], length, take, drop, slice_range, OnErr, IfOk, Ok};
 ghost use Rattle.faults.specs.Faults.{HasCause};
 ghost use Rattle.io_edge.specs.Buffered.{Buffered};
 ghost use Rattle.io_edge.specs.declared.buffer.TheConstants.{ROOM};

@@ -1,7 +1,7 @@
 //! How the next line is cut off the bytes held.
 
-ghost use Rattle.std.specs.Prelude.{◌≡◌, ◌≢◌, ◌<◌, ◌≤◌, ◌+◌, ◌++◌, List, [], ℕ, length, take, IfOk, IfErr, OnOk, OnErr, slice_index};
-ghost use Rattle.io_edge.specs.Lines.{NoNewline, IsWholeLine, IsLast, IsNextLine, IsCut, IsNumbered, StopsLines};
+ghost use Rattle.std.specs.Prelude.{◌≡◌, ◌≢◌, ◌<◌, ◌≤◌, ◌+◌, ◌++◌, List, ℕ, length, IfOk, IfErr, OnOk, OnErr};
+ghost use Rattle.io_edge.specs.Lines.{IsNextLine, IsNumbered, StopsLines};
 ghost use Rattle.io_edge.specs.Ahead.{Finds};
 
 use crate::ahead::{Ahead, stripped_len};

@@ -1,11 +1,10 @@
 //! Lines of a source, one at a time.
 
-ghost use Rattle.std.specs.Prelude.{◌≡◌, ◌≢◌, ◌<◌, ◌≤◌, ◌+◌, ◌-◌, ◌∷◌, ◌++◌, List, [], ℕ, length, None, Some, Err, IfOk, IfErr, IfSome, OnOk, OnErr};
+ghost use Rattle.std.specs.Prelude.{◌≡◌, ◌<◌, ◌≤◌, ◌+◌, ◌-◌, ◌∷◌, ◌++◌, [], length, None, Some, Err, IfOk, IfErr, IfSome, OnOk, OnErr};
 ghost use Rattle.std.specs.Borrow.{sem};
 ghost use Rattle.std.specs.Io.BufRead.{Rests};
 ghost use Rattle.std.specs.Str.Lines.{lines, strip_carriage_return};
-ghost use Rattle.io_edge.specs.Ahead.{Finds};
-ghost use Rattle.io_edge.specs.Lines.{Reading, NoNewline, IsNextLine, IsNumbered, IsWithin, StopsLines, LineCause, GivesNext, ahead, room};
+ghost use Rattle.io_edge.specs.Lines.{Reading, NoNewline, IsNextLine, IsNumbered, StopsLines, LineCause, GivesNext, ahead, room};
 ghost use Rattle.io_edge.specs.declared.line.TheConstants.{HELD_LIMIT, INPUT_LIMIT, LINE_LIMIT};
 
 use crate::ahead::{Ahead, look_ahead};

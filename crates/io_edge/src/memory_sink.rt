@@ -1,6 +1,6 @@
 //! A sink that keeps what is written in memory.
 
-ghost use Rattle.std.specs.Prelude.{◌≡◌, ◌⊎◌, ◌↔◌, ◌+◌, ◌<◌, ◌≤◌, ◌++◌, List, [], ℕ, length, take, vec_len, vec_capacity, IsErr, IfOk, OnOk, OnErr, Contains};
+ghost use Rattle.std.specs.Prelude.{◌≡◌, ◌⊎◌, ◌↔◌, ◌+◌, ◌<◌, ◌≤◌, ◌++◌, [], ℕ, length, take, vec_len, vec_capacity, IsErr, IfOk, OnOk, OnErr, Contains};
 ghost use Rattle.faults.specs.Faults.{HasCause, next_count};
 ghost use Rattle.io_edge.specs.Memory.{MemorySink};
 

@@ -1,6 +1,6 @@
 //! Sources over bytes in memory.
 
-ghost use Rattle.std.specs.Prelude.{◌≡◌, ◌<◌, ◌≤◌, ◌↔◌, ◌++◌, List, [], ℕ, length, min, take, drop, vec_len, Ok, IsTrue, IsErr, IfOk, OnErr, Contains};
+ghost use Rattle.std.specs.Prelude.{◌≡◌, ◌<◌, ◌≤◌, ◌↔◌, ◌++◌, List, [], ℕ, length, min, take, drop, vec_len, Ok, IsErr, IfOk, OnErr, Contains};
 ghost use Rattle.faults.specs.Faults.{HasCause, next_count};
 ghost use Rattle.io_edge.specs.Memory.{MemorySource};
 

@@ -1,6 +1,6 @@
 //! What bytes come from.
 
-ghost use Rattle.std.specs.Prelude.{◌≡◌, ◌<◌, ◌≤◌, ◌++◌, [], ℕ, length, take, Ok, IfOk, OnErr};
+ghost use Rattle.std.specs.Prelude.{◌≡◌, ◌<◌, ◌≤◌, ◌++◌, [], length, take, Ok, IfOk, OnErr};
 ghost use Rattle.faults.specs.Faults.{HasCause};
 ghost use Rattle.io_edge.specs.Streams.{SourceState};
 

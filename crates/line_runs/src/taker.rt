@@ -1,6 +1,6 @@
 //! What takes lines.
 
-ghost use Rattle.std.specs.Prelude.{◌≤◌, ℕ, List, length};
+ghost use Rattle.std.specs.Prelude.{◌≤◌, length};
 ghost use Rattle.io_edge.specs.declared.line.TheConstants.{LINE_LIMIT};
 ghost use Rattle.line_runs.specs.Taker.{TakerComes, Taker, TakingCause};
 

@@ -2,7 +2,6 @@
 
 ghost use Rattle.std.specs.Prelude.{◌≡◌, ℕ, ◌<◌, ◌≤◌, List, length, Some, false, true, slice_get, OnOk};
 ghost use Rattle.faults.specs.Faults.{HasCause};
-ghost use Rattle.flash_core.specs.declared.page.Page.{Page as PageOf};
 ghost use Rattle.flash_core.specs.Device.{Only};
 ghost use Rattle.frame_pool.specs.Staged.{AreDistinct};
 ghost use Rattle.frame_pool.specs.declared.pool.TheConstants.{FRAMES};

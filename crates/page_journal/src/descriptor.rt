@@ -1,7 +1,6 @@
 //! The descriptor of a journal: which copy is of which store page.
 
-ghost use Rattle.std.specs.Prelude.{◌≡◌, ◌≢◌, ◌↔◌, ℕ, ◌+◌, ◌<◌, ◌≤◌, List, length, Some, slice_get, slice_index, IfSome, IsTrue};
-ghost use Rattle.flash_core.specs.declared.page.Page.{Page as PageOf};
+ghost use Rattle.std.specs.Prelude.{◌≡◌, ◌↔◌, ℕ, ◌+◌, ◌<◌, ◌≤◌, length, Some, slice_index, IfSome, IsTrue};
 ghost use Rattle.flash_core.specs.declared.page.TheConstants.{PAGES};
 ghost use Rattle.frame_pool.specs.declared.pool.TheConstants.{FRAMES};
 ghost use Rattle.page_journal.specs.Journal.{IsValid, copied_place, place_of_page};

@@ -1,6 +1,6 @@
 //! The steps of a commit on the device, each of which ends with a sync.
 
-ghost use Rattle.std.specs.Prelude.{◌≡◌, ℕ, ◌+◌, ◌<◌, ◌≤◌, List, length, Some, slice_get, slice_index, OnOk};
+ghost use Rattle.std.specs.Prelude.{◌≡◌, ◌+◌, ◌<◌, ◌≤◌, length, Some, slice_get, slice_index, OnOk};
 ghost use Rattle.faults.specs.Faults.{HasCause};
 ghost use Rattle.flash_core.specs.declared.page.Page.{Page as PageOf};
 ghost use Rattle.flash_core.specs.declared.page.TheConstants.{PAGES};

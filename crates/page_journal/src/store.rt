@@ -1,9 +1,8 @@
 //! The store.
 
 ghost use Rattle.std.specs.Prelude.{◌≡◌, ◌≢◌, ◌⊎◌, ◌<◌, ◌≤◌, ◌↔◌, ℕ, List, [], ◌∷◌, length, Some, None, Ok, true, false, slice_get, is_none, IsOk, IsSome, IfSome, IfOk, IfErr, OnOk, OnErr, IsTrue};
-ghost use Rattle.faults.specs.Faults.{HasCause, Rose};
-ghost use Rattle.flash_core.specs.declared.page.Page.{Page as PageOf};
-ghost use Rattle.flash_core.specs.Device.{NoneNew, SameBut, Only};
+ghost use Rattle.faults.specs.Faults.{HasCause};
+ghost use Rattle.flash_core.specs.Device.{NoneNew, Only};
 ghost use Rattle.frame_pool.specs.Staged.{staged_at, with_page};
 ghost use Rattle.frame_pool.specs.declared.pool.TheConstants.{FRAMES};
 ghost use Rattle.page_journal.specs.Journal.{HasValidJournal, IsValid, is_open, stored_page};

@@ -1,6 +1,6 @@
 //! Replies to protected commands (GlobalPlatform Amendment D, 6.2.5, 6.2.7).
 
-ghost use Rattle.std.specs.Prelude.{◌≡◌, ℕ, ◌+◌, ◌≤◌, List, ◌++◌, length};
+ghost use Rattle.std.specs.Prelude.{◌≡◌, ◌+◌, ◌≤◌, ◌++◌, length};
 ghost use Rattle.aes_block.specs.Cipher.{cipher};
 ghost use Rattle.arrayvec.specs.ArrayVec.{array_vec_len};
 ghost use Rattle.cmac_kdf.specs.Cbc.{sealed};

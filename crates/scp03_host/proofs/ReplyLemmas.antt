@@ -2,7 +2,7 @@
 use Rattle.std.proofs.Common.{◌≡◌, ℕ, ◌+◌, ◌-◌, ◌*◌, ◌^◌, ◌<◌, ◌≤◌, List, [], ◌∷◌, ◌++◌, length, take, drop, set, Bool, true, false, refl, sym, ap, subst, ◌∙◌, arith, inl, inr}
 use Rattle.std.specs.Prelude.{◌↔◌, IsTrue, nat_eq, slice_index, if◌then◌else◌, ◌&&◌}
 use Rattle.std.proofs.lemmas.Bool.{cases_Bool, true≢false}
-use Rattle.std.proofs.lemmas.List.{append_assoc, drop_at, get_or-drop, length-append, length-drop, length-take-le, nil_from_length, take-append-drop, take_at}
+use Rattle.std.proofs.lemmas.List.{append_assoc, drop_at, get_or-drop, length-append, length-drop, length-take-le, take-append-drop, take_at}
 use Rattle.std.specs.Cmp.Lexicographic.{other_text, pointwise, same_text}
 use Rattle.std.specs.Int.{to_be_bytes, w128}
 use Rattle.aes_block.specs.Cipher.{IsBlock, cipher}
@@ -19,7 +19,7 @@ use Rattle.scp03_card.specs.Levels.{has_r_mac, has_r_encryption}
 use Rattle.scp03_card.specs.Offer.{s_enc, s_rmac}
 use Rattle.scp03_card.specs.Protected.{is_success_or_warning, r_mac, reply_field, reply_icv, session_reply}
 use Rattle.scp03_card.proofs.ListLemmas.{IsBytes-take}
-use Rattle.scp03_card.proofs.SessionLemmas.{protected_error, protected_plain, protected_whole, reply_field_clear}
+use Rattle.scp03_card.proofs.SessionLemmas.{protected_plain, protected_whole, reply_field_clear}
 use Rattle.scp03_card.specs.Session.{Session, chain_of}
 use Rattle.scp03_host.specs.Unwrapped.{HasRightMac, IsTooShort, Unwraps, field_in, has_own_mac, mac_in, status_in}
 

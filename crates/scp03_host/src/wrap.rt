@@ -1,6 +1,6 @@
 //! Protected commands (GlobalPlatform Amendment D, 6.2.4, 6.2.6).
 
-ghost use Rattle.std.specs.Prelude.{◌≡◌, ◌↔◌, ◌+◌, ◌%◌, ◌^◌, ◌<◌, ◌≤◌, length, take, IsErr, OnOk, OnErr};
+ghost use Rattle.std.specs.Prelude.{◌≡◌, ◌↔◌, ◌+◌, ◌<◌, ◌≤◌, length, take, IsErr, OnOk, OnErr};
 ghost use Rattle.apdu_core.specs.Apdu.{Short, apdu_of};
 ghost use Rattle.scp03_card.specs.Kept.{HasSessionKeys, RepresentsSession};
 ghost use Rattle.scp03_card.specs.Session as model;

@@ -1,6 +1,6 @@
 //! The lines of a round of the workload (this profile's own).
 
-ghost use Rattle.std.specs.Prelude.{◌≡◌, ◌+◌, ◌<◌, ◌≤◌, ◌++◌, [], decimal, codes, slice_get};
+ghost use Rattle.std.specs.Prelude.{◌≡◌, ◌+◌, ◌<◌, ◌≤◌, ◌++◌, decimal, codes, slice_get};
 ghost use Rattle.std.specs.Int.{to_be_bytes};
 ghost use Rattle.std.specs.Option.{option_map};
 ghost use Rattle.script_lines.specs.Prelude.{application_of, array_vec_len, challenge_of, digits_of, lines_of, round_file};

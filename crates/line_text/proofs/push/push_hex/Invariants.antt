@@ -1,4 +1,4 @@
-use Rattle.std.proofs.Common.{◌≡◌, ◌≤◌, ◌+◌, ◌*◌, ◌++◌, length}
+use Rattle.std.proofs.Common.{◌≡◌, ◌+◌, ◌*◌, ◌++◌, length}
 use Rattle.arrayvec.specs.ArrayVec.{array_vec_len}
 use Rattle.hex.specs.Hex.{encode_lower}
 use Rattle.line_text.proofs.push.push_hex.Given as goal

@@ -1,6 +1,6 @@
-use Rattle.std.proofs.Common.{◌≡◌, ◌∙◌, ◌++◌, ◌-◌, List, ℕ, ap, sym, refl, length, true, Ok, arith}
+use Rattle.std.proofs.Common.{◌≡◌, ◌∙◌, ◌++◌, List, ℕ, ap, sym, refl, length, Ok, arith}
 use Rattle.std.proofs.lemmas.Bool.{eqb-false, true≢false}
-use Rattle.scp03_card.specs.Protected.{r_mac, reply_field}
+use Rattle.scp03_card.specs.Protected.{r_mac}
 use Rattle.scp03_host.proofs.ReplyLemmas as reply
 use Rattle.scp03_host.proofs.host_session.HostSession.unwrap.Goals as goal
 
