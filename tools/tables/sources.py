@@ -136,11 +136,11 @@ lowest, highest, least, most, *lone_versions, lone_identifier = [int(number, 16)
 lone_keys = {constant(SLOTS / "src/delegation.rt", name): name.replace("_", " ").lower() for name in ("TOKEN_KEY", "RECEIPT_KEY")}
 
 # The data objects: for each tag how many bytes its value has.
-is_object = re.search(r"^fn is_object\(.*?^\}", (RULES / "src/store_data.rt").read_text(), re.M | re.S).group(0)
+objects_text = (TYPES / "src/data_objects.rt").read_text()
 object_sizes = {}
-for tags, sizes in re.findall(r"^        (0x.*) => (.*),$", is_object, re.M):
+for tags, sizes in re.findall(r"^        ([A-Z].*) => (.*),$", objects_text, re.M):
     for tag in tags.split(" | "):
-        object_sizes[f"{int(tag, 16):04X}"] = " to ".join(re.findall(r"\d+", sizes))
+        object_sizes[f"{number_in(objects_text, tag):04X}"] = " to ".join(re.findall(r"\d+", sizes))
 
 # How the program ends: endings, cards that are not powered on, words; and the script that builds it.
 tool_text = (CRATES / "line_runs/src/exit.rt").read_text()

@@ -3,27 +3,11 @@
 ghost use Rattle.std.specs.Prelude.{◌≡◌, ◌↔◌, ℕ, IsTrue, length};
 ghost use Rattle.card_check.specs.CardSlots.{HasObject, IsCardObject};
 ghost use Rattle.card_types.specs.Represents.{HasSlots};
-ghost use Rattle.card_types.specs.Well.{IsObject};
 ghost use Rattle.card_types.specs.declared.limits.TheConstants.{OBJECTS};
 
 use crate::domains::is_domain;
 use crate::slots::Asks;
-use card_types::{OBJECTS, Object, Tables, in_slot};
-
-/// The tag of the Issuer Identification Number.
-const ISSUER_NUMBER: u16 = 0x42;
-
-/// The tag of the Card Image Number.
-const IMAGE_NUMBER: u16 = 0x45;
-
-/// The tag of key diversification data.
-const DIVERSIFICATION: u16 = 0xCF;
-
-/// The tag of card data.
-const CARD_DATA: u16 = 0x66;
-
-/// The tag of card-specific data.
-const CARD_SPECIFIC: u16 = 0x5F50;
+use card_types::{OBJECTS, Object, Tables, in_slot, is_object};
 
 impl Asks<Object> for Tables {
     ghost ready = { HasSlots };
@@ -32,19 +16,8 @@ impl Asks<Object> for Tables {
 
     fn admits(&self, slot: u8, object: &Object) -> bool {
         is_domain(&self.entries, object.owner)
-            && is_form(object.tag, object.value.len())
+            && is_object(object.tag, object.value.len())
             && is_only(&self.objects, slot, object)
-    }
-}
-
-fn is_form(tag: u16, len: usize) -> bool
-    ensures { IsTrue result ↔ IsObject tag len }
-{
-    match tag {
-        ISSUER_NUMBER | IMAGE_NUMBER => 1 <= len && len <= 10,
-        DIVERSIFICATION => len == 10,
-        CARD_DATA | CARD_SPECIFIC => 1 <= len && len <= 120,
-        _ => false,
     }
 }
 

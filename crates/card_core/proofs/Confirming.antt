@@ -6,6 +6,7 @@ use Rattle.card_types.proofs.Domains.{domain_aid_is}
 use Rattle.card_types.proofs.ObjectNames.{object_in_slot, object_unnamed}
 use Rattle.card_types.proofs.SetNames.{has_from_held, has_key_named}
 use Rattle.card_core.specs.Prelude.{Admitted, AnswersFor, Effect, FindsConfirmer, HasChanged, IsAnswered, IsAnsweredBy, IsReceiptIn, IsReceipterIn, IsUniqueIn, IsValueIn, KeepsNumber, Registry, Represents, domain_aid, entry_of, is_tagged_in, key_of, no_confirmation, object_named, object_of, receipt, thing_in, unique_data, value_of, with_receipts}
+use Rattle.card_types.specs.declared.data_objects.TheConstants.{IMAGE_NUMBER, ISSUER_NUMBER}
 use Rattle.card_types.specs.declared.factory.TheConstants.{ISSUER}
 use Rattle.card_types.specs.declared.limits.TheConstants.{RECEIPT_LIMIT}
 use Rattle.card_types.specs.declared.tables.Entry.{Entry}
@@ -78,8 +79,8 @@ module _ (page : ℕ → List ℕ) (before after : Tables) (domain : ℕ) (recei
   unique_named : (unique : List ℕ) → IsUniqueIn after.objects.items unique → unique ≡ unique_data said
   unique_named unique is =
       let before_is = value_before before.objects.items after.objects.items has.keeps.objects in
-      let first = value_named 0x42 is.issuer_number (before_is 0x42 is.issuer_number is.first) in
-      let second = value_named 0x45 is.image_number (before_is 0x45 is.image_number is.second) in
+      let first = value_named ISSUER_NUMBER is.issuer_number (before_is ISSUER_NUMBER is.issuer_number is.first) in
+      let second = value_named IMAGE_NUMBER is.image_number (before_is IMAGE_NUMBER is.image_number is.second) in
       is.are ∙ (λ i. first i ++ second i)
 
   -- the domain in the slot does

@@ -2,6 +2,7 @@
 use Rattle.std.proofs.Common.{◌≡◌, ℕ, List, [], ◌∷◌, ◌++◌, Option, None, Some, Result, Ok, Err, refl, sym, ap, subst, ◌∙◌, inr, arith}
 use Rattle.std.specs.Prelude.{IsErrAnd}
 use Rattle.std.proofs.lemmas.List.{append_assoc}
+use Rattle.card_types.specs.declared.data_objects.TheConstants.{DIVERSIFICATION}
 use Rattle.apdu_core.specs.declared.reply.Status.{Status}
 use Rattle.card_core.specs.Prelude.{Admitted, AsksForSet, Counter, HasData, IsDataObject, Judges, KeptOffer, Object, Offer, OffersAs, Registry, RepresentsOffer, UsesSet, acting, card_cryptogram, counter_bytes, diversification_of, new_offer, object_named, offer_body}
 use Rattle.card_core.specs.declared.channel_session.ChannelSession.{ChannelSession}
@@ -9,15 +10,15 @@ use Rattle.card_types.specs.declared.tables.Tables.{Tables}
 use Rattle.policy_machine.specs.declared.rule.Rule.{Rule}
 
 -- the key diversification data where there is such a data object
-pub object_diversifies : (said : Registry) (owner value : List ℕ) → IsDataObject said owner 0xCF value
-    → value ≡ diversification_of (object_named said owner 0xCF)
+pub object_diversifies : (said : Registry) (owner value : List ℕ) → IsDataObject said owner DIVERSIFICATION value
+    → value ≡ diversification_of (object_named said owner DIVERSIFICATION)
 object_diversifies said owner value is = is.2 ∙ ap diversification_of (sym is.1)
 
 -- there is no such data object where GET DATA finds nothing
-pub none_named : (said : Registry) (owner : List ℕ) → ((value : List ℕ) → HasData said owner 0xCF value → ⊥) → object_named said owner 0xCF ≡ None
-none_named said owner none = by (object_named said owner 0xCF) refl
+pub none_named : (said : Registry) (owner : List ℕ) → ((value : List ℕ) → HasData said owner DIVERSIFICATION value → ⊥) → object_named said owner DIVERSIFICATION ≡ None
+none_named said owner none = by (object_named said owner DIVERSIFICATION) refl
   where
-    by : (o : Option Object) → object_named said owner 0xCF ≡ o → o ≡ None
+    by : (o : Option Object) → object_named said owner DIVERSIFICATION ≡ o → o ≡ None
     by None is = refl
     by (Some object) is =
         absurd (none object.value (inr (inr ((λ same. omega (arith, same)), (λ same. omega (arith, same)), (object, is, refl)))))
@@ -31,7 +32,7 @@ refusal_handed admitted page tables held body (Err rule) found given judges empt
 
 -- the body of the reply, written part by part
 pub body_is : (said : Registry) (owner : List ℕ) (counter : Counter) (made : Offer) (zeroth first second third fourth fifth card cryptogram last : List ℕ)
-    → zeroth ≡ diversification_of (object_named said owner 0xCF) → first ≡ zeroth ++ counter.version ∷ [] → second ≡ first ++ 0x03 ∷ 0x70 ∷ []
+    → zeroth ≡ diversification_of (object_named said owner DIVERSIFICATION) → first ≡ zeroth ++ counter.version ∷ [] → second ≡ first ++ 0x03 ∷ 0x70 ∷ []
     → third ≡ second ++ card → fourth ≡ third ++ cryptogram → fifth ≡ fourth ++ last
     → card ≡ made.card → cryptogram ≡ card_cryptogram made → last ≡ counter_bytes counter.number
     → fifth ≡ offer_body said owner counter made

@@ -4,12 +4,13 @@ use Rattle.std.proofs.lemmas.Bool.{and_parts, eqb-true}
 use Rattle.std.proofs.lemmas.List.Elements.{All-contains}
 use Rattle.card_types.proofs.ObjectNames.{objects_shown}
 use Rattle.card_core.specs.Prelude.{IsInOrder, IsObject, IsValueIn, IsWellObject, is_tagged_in, thing_in}
+use Rattle.card_types.specs.declared.data_objects.TheConstants.{IMAGE_NUMBER, ISSUER_NUMBER}
 use Rattle.card_types.specs.declared.search.InSlot.{InSlot}
 use Rattle.card_types.specs.declared.tables.Object.{Object}
 use Rattle.card_types.specs.declared.tables.Tables.{Tables}
 use Rattle.card_types.specs.declared.tables.TheConstants.{ISSUER_SLOT}
 
-small : (tag size : ℕ) → (tag ≡ 0x42) ⊎ (tag ≡ 0x45) → IsObject tag size → size ≤ 10
+small : (tag size : ℕ) → (tag ≡ ISSUER_NUMBER) ⊎ (tag ≡ IMAGE_NUMBER) → IsObject tag size → size ≤ 10
 small tag size which (inl is) = is.2
 small tag size which (inr (inl is)) = elim which [
   | inl first ↦ absurd (omega (arith, first, is.0))
@@ -20,7 +21,7 @@ small tag size (inl first) (inr (inr (inr is, _, _))) = absurd (omega (arith, fi
 small tag size (inr second) (inr (inr (inl is, _, _))) = absurd (omega (arith, second, is))
 small tag size (inr second) (inr (inr (inr is, _, _))) = absurd (omega (arith, second, is))
 
-module _ (tables : Tables) (tag : ℕ) (which : (tag ≡ 0x42) ⊎ (tag ≡ 0x45)) (found : InSlot Object)
+module _ (tables : Tables) (tag : ℕ) (which : (tag ≡ ISSUER_NUMBER) ⊎ (tag ≡ IMAGE_NUMBER)) (found : InSlot Object)
     (at : thing_in tables.objects.items found.slot ≡ Some found.thing.now) (fitting : is_tagged_in ISSUER_SLOT tag (Some found.thing.now) ≡ true) where
   tagged : (found.thing.now.owner ≡ ISSUER_SLOT) × (found.thing.now.tag ≡ tag)
   tagged =

@@ -5,6 +5,7 @@ use Rattle.card_types.specs.KeySets.{HoldsKeyOf}
 use Rattle.card_types.specs.Represents.{HasIssuer, Represents, thing_in}
 use Rattle.card_types.specs.Search.{NoneFits}
 use Rattle.card_types.specs.Registry.{Registry}
+use Rattle.card_types.specs.declared.data_objects.TheConstants.{IMAGE_NUMBER, ISSUER_NUMBER}
 use Rattle.card_types.specs.declared.tables.Entry.{Entry}
 use Rattle.card_types.specs.declared.tables.KeyRec.{KeyRec}
 use Rattle.card_types.specs.declared.tables.Object.{Object}
@@ -81,8 +82,8 @@ IsValueIn objects tag value =
 pub record IsUniqueIn (objects : List (Option Object)) (unique : List ℕ) : Type 0 where
   pub issuer_number : List ℕ
   pub image_number : List ℕ
-  pub first : IsValueIn objects 0x42 issuer_number
-  pub second : IsValueIn objects 0x45 image_number
+  pub first : IsValueIn objects ISSUER_NUMBER issuer_number
+  pub second : IsValueIn objects IMAGE_NUMBER image_number
   pub are : unique ≡ issuer_number ++ image_number
 
 -- a receipt with this number, under the receipt key of the domain in a slot

@@ -4,13 +4,16 @@
 ghost use Rattle.std.specs.Prelude.{◌≡◌, ◌⊎◌, ◌≤◌, ◌+◌, ◌++◌, ℕ, List, [], IfSome, length, true};
 ghost use Rattle.card_core.specs.Prelude.{AreCards, Confirms, HasFramesFor, HasKey, IsInOrder, IsKeyLength, IsReceiptIn, IsUniqueIn, IsValueIn, KeepsAids, MayReceipt, aid_list, aids_of, entry_pages};
 ghost use Rattle.tokens_receipts.specs.Receipt.{receipt as receipt_of};
+ghost use Rattle.card_types.specs.declared.data_objects.TheConstants.{IMAGE_NUMBER, ISSUER_NUMBER};
 ghost use Rattle.scp03_card.specs.declared.close.TheConstants.{DATA_LIMIT};
 
 use crate::reply::Reply;
 use crate::store_data::Tagged;
 use aes_block::{BlockKey, SealingAes128, SealingAes192, SealingAes256};
 use arrayvec::ArrayVec;
-use card_types::{Aid, ISSUER_SLOT, KeyRec, Tables, find_key, first_that, in_slot};
+use card_types::{
+    Aid, IMAGE_NUMBER, ISSUER_NUMBER, ISSUER_SLOT, KeyRec, Tables, find_key, first_that, in_slot,
+};
 use flash_core::Flash;
 use rec_store::Records;
 use registry::set_receipts;
@@ -71,7 +74,7 @@ pub fn confirm<F: Flash>(
 // Appends the value of a data object of the Issuer Security Domain, where it has that.
 fn push_object(tables: &Tables, tag: u16, unique: &mut ArrayVec<u8, 20>)
     requires in_order { IsInOrder tables.now }
-    requires tag { (tag ≡ 0x42) ⊎ (tag ≡ 0x45) }
+    requires tag { (tag ≡ ISSUER_NUMBER) ⊎ (tag ≡ IMAGE_NUMBER) }
     requires room { length unique.old.items ≤ 10 }
     ensures value { (value : List ℕ) × IsValueIn tables.now.objects.items tag value × (unique.new.items ≡ unique.old.items ++ value) }
     ensures size { length unique.new.items ≤ length unique.old.items + 10 }
@@ -92,8 +95,8 @@ fn unique_data(tables: &Tables) -> ArrayVec<u8, 20>
     ensures size { length result.items ≤ 20 }
 {
     let mut unique = ArrayVec::new();
-    push_object(tables, 0x42, &mut unique);
-    push_object(tables, 0x45, &mut unique);
+    push_object(tables, ISSUER_NUMBER, &mut unique);
+    push_object(tables, IMAGE_NUMBER, &mut unique);
     unique
 }
 

@@ -2,6 +2,7 @@
 
 ghost use Rattle.std.specs.Prelude.{◌≡◌, ◌≤◌, ℕ, true, List, [], length, None, Some, IfSome, IfNone, OnErr};
 ghost use Rattle.card_core.specs.Prelude.{ActsIn, Admitted, AreCards, ForEntry, IsDataObject, IsInOrder, IsRequestOf, OffersAs, RepresentsOffer, counter_of, diversification_of, object_named, offer_body};
+ghost use Rattle.card_types.specs.declared.data_objects.TheConstants.{DIVERSIFICATION};
 ghost use Rattle.card_types.specs.declared.limits.TheConstants.{COUNTER_LIMIT};
 ghost use Rattle.policy_rules.specs.declared.request.Request.TheVariants.{Initialize};
 ghost use Rattle.scp03_card.specs.Offer as model;
@@ -11,14 +12,11 @@ use crate::aes_offer::AesOffer;
 use crate::channel_session::ChannelSession;
 use crate::reply::{Answer, Reply};
 use apdu_core::Status;
-use card_types::{KeyRec, Object, Tables};
+use card_types::{DIVERSIFICATION, KeyRec, Object, Tables};
 use flash_core::Flash;
 use key_sets::raise_counter;
 use policy_rules::{Datum, judge_get_data, judge_initialize_update};
 use rec_store::Records;
-
-/// The tag of key diversification data.
-const DIVERSIFICATION: u16 = 0x00CF;
 
 /// SCP03, and its i parameter: a pseudo-random challenge, R-MAC and R-ENCRYPTION.
 const PROTOCOL: [u8; 2] = [0x03, 0x70];
@@ -26,8 +24,8 @@ const PROTOCOL: [u8; 2] = [0x03, 0x70];
 // The key diversification data of a domain, where it has such a data object.
 fn diversification(tables: &Tables, owner: u8) -> Option<&Object>
     requires in_order { IsInOrder tables.now }
-    ensures some { ForEntry tables.now owner (λ said aid. IfSome result (λ object. IsDataObject said aid 0xCF object.now.value.items)) }
-    ensures none { ForEntry tables.now owner (λ said aid. IfNone result (object_named said aid 0xCF ≡ None)) }
+    ensures some { ForEntry tables.now owner (λ said aid. IfSome result (λ object. IsDataObject said aid DIVERSIFICATION object.now.value.items)) }
+    ensures none { ForEntry tables.now owner (λ said aid. IfNone result (object_named said aid DIVERSIFICATION ≡ None)) }
 {
     match judge_get_data(tables, owner, DIVERSIFICATION) {
         Ok(Datum::Object { object }) => Some(object),
@@ -41,7 +39,7 @@ fn diversification(tables: &Tables, owner: u8) -> Option<&Object>
 fn write_diversification(tables: &Tables, owner: u8, reply: &mut Reply)
     requires in_order { IsInOrder tables.now }
     requires empty { reply.old.items ≡ [] }
-    ensures written { ForEntry tables.now owner (λ said aid. reply.new.items ≡ diversification_of (object_named said aid 0xCF)) }
+    ensures written { ForEntry tables.now owner (λ said aid. reply.new.items ≡ diversification_of (object_named said aid DIVERSIFICATION)) }
     ensures size { length reply.new.items ≤ 120 }
 {
     match diversification(tables, owner) {

@@ -6,6 +6,7 @@ use Rattle.card_types.specs.Aid.{IsAid, same_aid}
 use Rattle.card_types.specs.Hierarchy.{IsLine}
 use Rattle.card_types.specs.Privileges.{IsNamed, authorized_management, delegated_management, has, receipt_generation, token_verification}
 use Rattle.card_types.specs.Registry.{Registry, Entry, LoadFile, Key, Counter, Object, counter_named, domain_of, entry_named, file_named, is_domain, key_named, keys_of}
+use Rattle.card_types.specs.declared.data_objects.TheConstants.{CARD_DATA, CARD_SPECIFIC, DIVERSIFICATION, IMAGE_NUMBER, ISSUER_NUMBER}
 use Rattle.card_types.specs.declared.factory.TheConstants.{ISSUER, FACTORY_FILE, FACTORY_MODULE}
 use Rattle.card_types.specs.declared.life.Life.{Life}
 use Rattle.card_types.specs.declared.life.Life.TheVariants.{Personalized}
@@ -77,9 +78,9 @@ pub record IsWholeSet (registry : Registry) (owner : List ℕ) (version : ℕ) :
 -- diversification data (CF), card data and card-specific data (66, 5F50).
 abbrev pub IsObject : ℕ → ℕ → Type 0
 IsObject tag size =
-    (((tag ≡ 0x42) ⊎ (tag ≡ 0x45)) × (1 ≤ size) × (size ≤ 10))
-    ⊎ ((tag ≡ 0xCF) × (size ≡ 10))
-    ⊎ (((tag ≡ 0x66) ⊎ (tag ≡ 0x5F50)) × (1 ≤ size) × (size ≤ 120))
+    (((tag ≡ ISSUER_NUMBER) ⊎ (tag ≡ IMAGE_NUMBER)) × (1 ≤ size) × (size ≤ 10))
+    ⊎ ((tag ≡ DIVERSIFICATION) × (size ≡ 10))
+    ⊎ (((tag ≡ CARD_DATA) ⊎ (tag ≡ CARD_SPECIFIC)) × (1 ≤ size) × (size ≤ 120))
 
 -- what is so of each entry by itself
 pub record IsProperEntry (entry : Entry) : Type 0 where

@@ -3,6 +3,7 @@
 
 mod aid;
 mod card_life;
+mod data_objects;
 mod factory;
 mod found;
 mod key_set;
@@ -17,6 +18,9 @@ mod tables;
 
 pub use aid::Aid;
 pub use card_life::CardLife;
+pub use data_objects::{
+    CARD_DATA, CARD_SPECIFIC, DIVERSIFICATION, IMAGE_NUMBER, ISSUER_NUMBER, is_object,
+};
 pub use factory::{
     FACTORY_FILE, FACTORY_KEY, FACTORY_MODULE, FACTORY_VERSION, ISSUER, factory_file, factory_key,
     issuer_domain,

@@ -1,11 +1,12 @@
 //! The numbers that definitions read from the code, each against its literal.
 
 ghost use Rattle.std.specs.Prelude.{◌≡◌, ◌∷◌, []};
+ghost use Rattle.card_types.specs.declared.data_objects.TheConstants.{CARD_DATA, CARD_SPECIFIC, DIVERSIFICATION, IMAGE_NUMBER, ISSUER_NUMBER};
 ghost use Rattle.card_types.specs.declared.factory.TheConstants.{ISSUER, FACTORY_FILE, FACTORY_MODULE, FACTORY_PRIVILEGES, FACTORY_VERSION, FACTORY_KEY};
 ghost use Rattle.card_types.specs.declared.limits.TheConstants.{ENTRIES, FILES, KEYS, DOMAIN_KEYS, OBJECTS, LOAD_PAGES, FILE_LIMIT, COUNTER_LIMIT, RECEIPT_LIMIT};
 ghost use Rattle.card_types.specs.declared.tables.TheConstants.{ISSUER_SLOT};
 
-/// How much a card has room for, and the names, privileges and keys of the factory card.
+/// How much a card has room for, the tags of data objects, and the names, privileges and keys of the factory card.
 pub fn constants()
     ensures entries { ENTRIES ≡ 32 }
     ensures files { FILES ≡ 16 }
@@ -16,6 +17,11 @@ pub fn constants()
     ensures file_limit { FILE_LIMIT ≡ 32768 }
     ensures counter_limit { COUNTER_LIMIT ≡ 0xFFFFFF }
     ensures receipt_limit { RECEIPT_LIMIT ≡ 0xFFFF }
+    ensures issuer_number { ISSUER_NUMBER ≡ 0x42 }
+    ensures image_number { IMAGE_NUMBER ≡ 0x45 }
+    ensures card_data { CARD_DATA ≡ 0x66 }
+    ensures diversification { DIVERSIFICATION ≡ 0xCF }
+    ensures card_specific { CARD_SPECIFIC ≡ 0x5F50 }
     ensures issuer_slot { ISSUER_SLOT ≡ 0 }
     ensures issuer { ISSUER ≡ 0xA0 ∷ 0x00 ∷ 0x00 ∷ 0x01 ∷ 0x51 ∷ 0x00 ∷ 0x00 ∷ 0x00 ∷ [] }
     ensures factory_file { FACTORY_FILE ≡ 0xA0 ∷ 0x00 ∷ 0x00 ∷ 0x01 ∷ 0x51 ∷ 0x53 ∷ 0x50 ∷ [] }

@@ -5,6 +5,7 @@ use Rattle.std.specs.Prelude.{◌≡◌, ◌≢◌, ◌⊎◌, ℕ, ◌+◌, ◌
 use Rattle.card_types.specs.Privileges.{authorized_management, delegated_management, receipt_generation, token_verification}
 use Rattle.card_types.specs.Registry.{Entry, Key, Object, Registry, domain_of, entry_named, key_named, object_named}
 use Rattle.card_types.specs.RegistryChange.{with_receipts}
+use Rattle.card_types.specs.declared.data_objects.TheConstants.{IMAGE_NUMBER, ISSUER_NUMBER}
 use Rattle.card_types.specs.declared.factory.TheConstants.{ISSUER}
 use Rattle.card_types.specs.declared.limits.TheConstants.{RECEIPT_LIMIT}
 use Rattle.domain_tree.specs.Above.{IsFirstAbove, NoneAbove}
@@ -97,7 +98,7 @@ value_of None = []
 value_of (Some object) = object.value
 
 abbrev pub unique_data : Registry → List ℕ
-unique_data registry = value_of (object_named registry ISSUER 0x42) ++ value_of (object_named registry ISSUER 0x45)
+unique_data registry = value_of (object_named registry ISSUER ISSUER_NUMBER) ++ value_of (object_named registry ISSUER IMAGE_NUMBER)
 
 -- The command is confirmed: the receipter's number is one higher, and the reply is the receipt with that number.
 pub record IsConfirmed (admitted : Admitted) (aids : List (List ℕ)) (changed : Registry) (done : Effect) : Type 0 where

@@ -2,6 +2,7 @@
 use Rattle.std.specs.Prelude.{◌≡◌, ◌≢◌, ℕ, List, ◌∷◌, ◌++◌, [], true, Option, None, Some, length, replicate, codes}
 use Rattle.card_types.specs.Counters.{with_counter_raised}
 use Rattle.card_types.specs.Registry.{Counter, Key, Object, Registry, key_named, object_named}
+use Rattle.card_types.specs.declared.data_objects.TheConstants.{DIVERSIFICATION}
 use Rattle.card_types.specs.declared.factory.TheConstants.{ISSUER}
 use Rattle.card_types.specs.declared.limits.TheConstants.{COUNTER_LIMIT}
 use Rattle.scp03_card.specs.Offer.{Offer, card_cryptogram, counter_bytes, new_offer}
@@ -66,7 +67,7 @@ pub record IsOfferOf (admitted : Admitted) (owner : List ℕ) (counter : Counter
 -- the reply: diversification data, key version number, SCP03 with the i parameter 70, challenge, cryptogram and counter
 abbrev pub offer_body : Registry → List ℕ → Counter → Offer → List ℕ
 offer_body registry owner counter offer =
-    diversification_of (object_named registry owner 0xCF) ++ counter.version ∷ 0x03 ∷ 0x70 ∷ offer.card
+    diversification_of (object_named registry owner DIVERSIFICATION) ++ counter.version ∷ 0x03 ∷ 0x70 ∷ offer.card
     ++ card_cryptogram offer ++ counter_bytes counter.number
 
 -- The channel has the offer then, in place of any session, and the counter is one higher.

@@ -8,21 +8,15 @@ ghost use Rattle.policy_rules.specs.declared.request.Request.TheVariants.{Store}
 
 use crate::request::Request;
 use bertlv::{Tlv, read};
-use card_types::{OBJECTS, Object, Tables};
+use card_types::{OBJECTS, Object, Tables, is_object};
 use policy_machine::{Rule, RulePS, RuleSD};
 use policy_slots::{has_tag, judge_management};
 
 // Whether a domain may have the data object.
-fn is_object(element: &Tlv<'_>) -> bool
+fn may_be_stored(element: &Tlv<'_>) -> bool
     ensures { IsTrue result ↔ IsObject element.now.tag (length element.now.value.now) }
 {
-    let size = element.value.len();
-    match element.tag {
-        0x42 | 0x45 => 1 <= size && size <= 10,
-        0xCF => size == 10,
-        0x66 | 0x5F50 => 1 <= size && size <= 120,
-        _ => false,
-    }
+    is_object(element.tag, element.value.len())
 }
 
 // Whether the bytes are data objects that a domain may have, none or more.
@@ -34,7 +28,7 @@ fn are_objects(bytes: &[u8]) -> bool
         let Ok((element, after)) = read(rest) else {
             return false;
         };
-        if !is_object(&element) {
+        if !may_be_stored(&element) {
             return false;
         }
         rest = after;

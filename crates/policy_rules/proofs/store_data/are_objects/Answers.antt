@@ -8,15 +8,15 @@ loop-rest-preserved c =
     let element = c.in-Ok.element in
     let after = c.in-Ok.after.now in
     let rest = c.loop-rest.rest.now in (
-      λ objects. c.loop-rest.invariant.0 (objects_with element.tag element.value.now after rest c.in-Ok.ensures.found (c.is_object.ensures.0 c.if-not-is_object.false) objects),
+      λ objects. c.loop-rest.invariant.0 (objects_with element.tag element.value.now after rest c.in-Ok.ensures.found (c.may_be_stored.ensures.0 c.if-not-may_be_stored.false) objects),
       λ objects. (objects_after element.tag element.value.now after rest c.in-Ok.ensures.found (c.loop-rest.invariant.1 objects)).1,
     )
 
-pub returns-then-not-is_object : goal.returns-then-not-is_object
-returns-then-not-is_object c =
+pub returns-then-not-may_be_stored : goal.returns-then-not-may_be_stored
+returns-then-not-may_be_stored c =
     let element = c.in-Ok.element in (
       λ is. absurd (false≢true is),
-      λ objects. absurd (iff_false c.is_object.ensures c.if-not-is_object.true
+      λ objects. absurd (iff_false c.may_be_stored.ensures c.if-not-may_be_stored.true
           (objects_after element.tag element.value.now c.in-Ok.after.now c.loop-rest.rest.now c.in-Ok.ensures.found (c.loop-rest.invariant.1 objects)).0),
     )
 
