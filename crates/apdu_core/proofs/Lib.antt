@@ -1,2 +1,3 @@
+pub mod ClassBytes
 pub mod Octets
 pub mod OneSpelling

@@ -1,2 +1,3 @@
 pub mod Apdu
+pub mod ClassBytes
 pub mod Reply

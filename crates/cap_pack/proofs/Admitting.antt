@@ -2,10 +2,12 @@
 use Rattle.std.proofs.Common.{◌≡◌, ◌≢◌, ℕ, ◌+◌, ◌/◌, ◌<◌, ◌≤◌, length, true, Option, None, Some, refl, sym, ap, subst, ◌∙◌, arith}
 use Rattle.std.specs.Prelude.{Contains, MatchOption, not, if◌then◌else◌, ◌==◌}
 use Rattle.apdu_core.specs.Apdu.{Apdu}
+use Rattle.apdu_core.specs.ClassBytes.{IsBasicChannel, channel_of, on_channel}
+use Rattle.apdu_core.proofs.ClassBytes.{is_of_class, names_it}
 use Rattle.card_types.specs.declared.card_life.CardLife.TheVariants.{Terminated}
 use Rattle.cmac_kdf.specs.Blocks.{IsBytes}
 use Rattle.policy_machine.specs.Admission.{Admits, Admitted, admitted_as, class_passed, message_joined}
-use Rattle.policy_machine.specs.Classes.{IsKnown, channel_of, class_of, instructions_of, is_protected, protects}
+use Rattle.policy_machine.specs.Classes.{IsKnown, class_of, instructions_of, is_protected, protects}
 use Rattle.policy_machine.specs.Sound.{IsSound}
 use Rattle.policy_machine.specs.State.{State, Channel, Secured, Volatile, channel_at, channel_with, secure_channel_of, selected_on, session_in, session_on, without_load}
 use Rattle.policy_machine.specs.declared.class.Class.{Class}
@@ -22,13 +24,13 @@ use Rattle.script_tool.specs.Command.{command_bytes}
 use Rattle.cap_pack.proofs.Octets.{HasByteHeader, sent_is_short}
 
 -- a class byte of secure messaging names its channel
-pub channel_is : (channel : ℕ) → channel < 4 → channel_of (0x84 + channel) ≡ channel
-channel_is channel low = omega (arith, low)
+pub channel_is : (channel : ℕ) → IsBasicChannel channel → channel_of (on_channel 0x84 channel) ≡ channel
+channel_is channel = names_it 0x84 channel refl
 
-class_is : (channel : ℕ) → channel < 4 → class_of (0x84 + channel) ≡ Some Secure
+class_is : (channel : ℕ) → IsBasicChannel channel → class_of (on_channel 0x84 channel) ≡ Some Secure
 class_is channel low =
-    let quarter : (0x84 + channel) / 4 ≡ 0x21 = omega (arith, low) in
-    ap (λ (n : ℕ). if n == 0x00 then Some Interindustry else if n == 0x20 then Some Plain else if n == 0x21 then Some Secure else None) quarter
+    ap (λ (n : ℕ). if n == 0x00 then Some Interindustry else if n == 0x80 then Some Plain else if n == 0x84 then Some Secure else None)
+    (is_of_class 0x84 channel refl low)
 
 -- a plain command of card content management that a host can send
 pub record IsSendable (command : Apdu) : Type 0 where
@@ -42,8 +44,8 @@ pub record IsSendable (command : Apdu) : Type 0 where
 pub record HasOpen (state : State) (channel : ℕ) (session : Session) : Type 0 where
   pub sound : IsSound state
   pub alive : state.registry.life ≢ Terminated
-  pub low : channel < 4
-  pub on : session_on state.volatile (channel_of (0x84 + channel)) ≡ Some session
+  pub low : IsBasicChannel channel
+  pub on : session_on state.volatile (channel_of (on_channel 0x84 channel)) ≡ Some session
 
 module _ (state : State) (channel : ℕ) (session : Session) (has : HasOpen state channel session) (command : Apdu) (sendable : IsSendable command) where
   abbrev pub sent : Apdu
@@ -53,7 +55,7 @@ module _ (state : State) (channel : ℕ) (session : Session) (has : HasOpen stat
   taken = admitted_as state sent (Some (having_sent session command)) command.body
 
   abbrev number : ℕ
-  number = channel_of (0x84 + channel)
+  number = channel_of (on_channel 0x84 channel)
 
   protected : is_protected sent ≡ true
   protected = ap (λ (class : Option Class). protects class command.ins) (class_is channel has.low) ∙ sendable.other

@@ -3,6 +3,7 @@ use Rattle.std.proofs.Common.{◌≡◌, ◌≢◌, ℕ, ◌+◌, ◌<◌, ◌�
 use Rattle.std.specs.Prelude.{MatchOption}
 use Rattle.std.proofs.lemmas.List.{length-drop, length-take}
 use Rattle.apdu_core.specs.Apdu.{Apdu}
+use Rattle.apdu_core.specs.ClassBytes.{channel_of, on_channel}
 use Rattle.card_types.specs.Privileges.{delegated_management}
 use Rattle.card_types.specs.Registry.{Entry, LoadFile, Registry, entry_named}
 use Rattle.card_types.specs.RegistryChange.{IsFileAdded}
@@ -10,7 +11,6 @@ use Rattle.card_types.specs.Well.{pages_of}
 use Rattle.card_types.specs.declared.limits.TheConstants.{LOAD_PAGES}
 use Rattle.policy_machine.specs.Admission.{Admitted}
 use Rattle.policy_machine.specs.Charge.{HoldsPrivilege, IsAtOrAbove}
-use Rattle.policy_machine.specs.Classes.{channel_of}
 use Rattle.policy_machine.specs.Commands.{HasEffect, Judges, TakesCommand}
 use Rattle.policy_machine.specs.Delegation.{Holds}
 use Rattle.policy_machine.specs.Refusal.{IsFirst}
@@ -63,7 +63,7 @@ some_taken (b ∷ bs) some none = cc
 module _ (state : State) (channel : ℕ) (session : Session) (file domain bytes : List ℕ) (announced : Option ℕ) (so_far rest : List ℕ) (blocks : ℕ)
     (comes : Comes state channel session file domain bytes announced so_far rest blocks) (last : Bool) (whole : last ≡ true → length rest ≤ 239) where
   abbrev number : ℕ
-  number = channel_of (0x84 + channel)
+  number = channel_of (on_channel 0x84 channel)
 
   abbrev command : Apdu
   command = block_command last blocks (take 239 rest)

@@ -1,12 +1,12 @@
 -- An Executable Load File that comes in blocks on a channel.
 use Rattle.std.proofs.Common.{◌≡◌, ℕ, ◌+◌, ◌≤◌, List, ◌∷◌, ◌++◌, length, drop, Option, Some}
 use Rattle.apdu_core.specs.Apdu.{Apdu}
+use Rattle.apdu_core.specs.ClassBytes.{channel_of, on_channel}
 use Rattle.card_types.specs.ChangeLaws.{IsFreeAid}
 use Rattle.card_types.specs.Registry.{LoadFile, Registry}
 use Rattle.card_types.specs.Well.{pages_of}
 use Rattle.card_types.specs.declared.limits.TheConstants.{FILE_LIMIT, LOAD_PAGES}
 use Rattle.cmac_kdf.specs.Blocks.{IsBytes}
-use Rattle.policy_machine.specs.Classes.{channel_of}
 use Rattle.policy_machine.specs.LoadBlocks.{pages_used}
 use Rattle.policy_machine.specs.State.{State, LoadSession, selected_on}
 use Rattle.scp03_card.specs.Session.{Session}
@@ -40,8 +40,8 @@ pub record Comes (state : State) (channel : ℕ) (session : Session) (file domai
   pub has : HasOpen state channel session
   pub into : MayLoadInto state.registry domain
   pub may : MayCome state.registry file bytes
-  pub selected : selected_on state.volatile (channel_of (0x84 + channel)) ≡ domain
-  pub load : state.volatile.load ≡ Some (coming (channel_of (0x84 + channel)) file domain bytes announced so_far blocks)
+  pub selected : selected_on state.volatile (channel_of (on_channel 0x84 channel)) ≡ domain
+  pub load : state.volatile.load ≡ Some (coming (channel_of (on_channel 0x84 channel)) file domain bytes announced so_far blocks)
   pub ahead : IsAhead bytes announced so_far rest
   pub few : blocks ≤ 255
   pub some : 1 ≤ length rest

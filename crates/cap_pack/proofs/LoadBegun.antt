@@ -5,6 +5,7 @@ use Rattle.std.specs.List.{flat_map}
 use Rattle.std.proofs.lemmas.List.{flat_map_more}
 use Rattle.std.proofs.lemmas.List.Elements.{All-cons, All-nil}
 use Rattle.apdu_core.specs.Apdu.{Apdu}
+use Rattle.apdu_core.specs.ClassBytes.{channel_of, on_channel}
 use Rattle.card_types.specs.Aid.{IsAid}
 use Rattle.card_types.specs.Privileges.{authorized_management, delegated_management}
 use Rattle.card_types.specs.Registry.{Entry, entry_named}
@@ -12,7 +13,6 @@ use Rattle.card_types.specs.declared.limits.TheConstants.{FILES}
 use Rattle.cmac_kdf.specs.Blocks.{IsBytes}
 use Rattle.policy_machine.specs.Admission.{Admitted}
 use Rattle.policy_machine.specs.Charge.{HoldsPrivilege}
-use Rattle.policy_machine.specs.Classes.{channel_of}
 use Rattle.policy_machine.specs.Commands.{HasEffect, Judges, TakesCommand}
 use Rattle.policy_machine.specs.Delegation.{Holds}
 use Rattle.policy_machine.specs.Refusal.{IsFirst}
@@ -45,8 +45,8 @@ pub record MayBegin (state : State) (channel : ℕ) (session : Session) (file do
   pub has : HasOpen state channel session
   pub into : MayLoadInto state.registry domain
   pub may : MayCome state.registry file bytes
-  pub selected : selected_on state.volatile (channel_of (0x84 + channel)) ≡ domain
-  pub idle : load_without_channel (channel_of (0x84 + channel)) state.volatile.load ≡ None
+  pub selected : selected_on state.volatile (channel_of (on_channel 0x84 channel)) ≡ domain
+  pub idle : load_without_channel (channel_of (on_channel 0x84 channel)) state.volatile.load ≡ None
   pub aid : IsAid file
   pub named : IsBytes file
   pub octets : IsBytes bytes
@@ -54,7 +54,7 @@ pub record MayBegin (state : State) (channel : ℕ) (session : Session) (file do
 
 module _ (state : State) (channel : ℕ) (session : Session) (file domain bytes : List ℕ) (may : MayBegin state channel session file domain bytes) where
   abbrev number : ℕ
-  number = channel_of (0x84 + channel)
+  number = channel_of (on_channel 0x84 channel)
 
   abbrev fields : List (List ℕ)
   fields = file ∷ [] ∷ sha256 bytes ∷ [] ∷ []

@@ -3,6 +3,7 @@ use Rattle.std.proofs.Common.{◌≡◌, ◌≢◌, ℕ, ◌+◌, List, Bool, tr
 use Rattle.std.specs.Prelude.{MatchOption, ◌&&◌}
 use Rattle.std.proofs.lemmas.Bool.{false≢true, true≢false}
 use Rattle.std.proofs.lemmas.List.Elements.{All-contains}
+use Rattle.apdu_core.specs.ClassBytes.{channel_of, on_channel}
 use Rattle.card_types.proofs.LeastOfList.{found_fits}
 use Rattle.card_types.specs.Aid.{same_aid}
 use Rattle.card_types.specs.Privileges.{authorized_management, delegated_management, has}
@@ -11,7 +12,6 @@ use Rattle.card_types.specs.Well.{IsWellEntry, Well}
 use Rattle.card_types.specs.declared.card_life.CardLife.{CardLife}
 use Rattle.card_types.specs.declared.card_life.CardLife.TheVariants.{Locked}
 use Rattle.policy_machine.specs.Charge.{HoldsPrivilege, is_privileged}
-use Rattle.policy_machine.specs.Classes.{channel_of}
 use Rattle.policy_machine.specs.Select.{is_card_locked}
 use Rattle.policy_machine.specs.State.{State, LoadSession, load_without_channel, selected_on, session_on}
 use Rattle.policy_machine.specs.Step.{Outcome}
@@ -63,7 +63,7 @@ module _ (state : State) (channel : ℕ) (session : Session) (file bytes : List 
   domain = selected_on state.volatile channel
 
   abbrev number : ℕ
-  number = channel_of (0x84 + channel)
+  number = channel_of (on_channel 0x84 channel)
 
   is : number ≡ channel
   is = channel_is channel may.on.low

@@ -9,6 +9,7 @@ use Rattle.std.proofs.lemmas.List.Elements.{All-from_get_or}
 use Rattle.aes_block.specs.Cipher.{cipher, xor_bytes}
 use Rattle.aes_block.proofs.CipherLemmas.{cipher_is_block}
 use Rattle.apdu_core.specs.Apdu.{Apdu, Short, after_header}
+use Rattle.apdu_core.specs.ClassBytes.{IsBasicChannel}
 use Rattle.cmac_kdf.specs.Blocks.{IsBytes}
 use Rattle.cmac_kdf.specs.Cbc.{cbc, cbc_blocks, sealed}
 use Rattle.cmac_kdf.proofs.CbcLemmas.{length-sealed}
@@ -121,7 +122,7 @@ pub record HasByteHeader (command : Apdu) : Type 0 where
   pub p1 : command.p1 < 256
   pub p2 : command.p2 < 256
 
-module _ (session : Session) (command : Apdu) (channel : ℕ) (low : channel < 4) (head : HasByteHeader command) (bytes : IsBytes command.body)
+module _ (session : Session) (command : Apdu) (channel : ℕ) (low : IsBasicChannel channel) (head : HasByteHeader command) (bytes : IsBytes command.body)
     (few : length command.body ≤ 239) where
   abbrev sent : Apdu
   sent = wrapped_command session command channel

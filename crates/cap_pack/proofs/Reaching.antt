@@ -2,12 +2,12 @@
 use Rattle.std.proofs.Common.{◌≡◌, ◌≢◌, ℕ, ◌+◌, List, [], ◌∷◌, None, Some, refl, sym, subst, inr}
 use Rattle.std.specs.Prelude.{MatchOption, true}
 use Rattle.apdu_core.specs.Apdu.{Apdu}
+use Rattle.apdu_core.specs.ClassBytes.{channel_of, on_channel}
 use Rattle.card_types.specs.Privileges.{authorized_management, delegated_management}
 use Rattle.card_types.specs.Registry.{LoadFile, Registry, entry_named}
 use Rattle.card_types.specs.RegistryChange.{IsFileAdded}
 use Rattle.card_types.specs.declared.card_life.CardLife.TheVariants.{Terminated}
 use Rattle.policy_machine.specs.Charge.{HoldsPrivilege}
-use Rattle.policy_machine.specs.Classes.{channel_of}
 use Rattle.policy_machine.specs.Commands.{HasEffect, Judges}
 use Rattle.policy_machine.specs.Run.{Run}
 use Rattle.policy_machine.specs.Select.{is_card_locked}
@@ -52,7 +52,7 @@ module _ (state : State) (channel : ℕ) (session : Session) (has : HasOpen stat
   }))
 
   -- leaves the session open
-  pub open_after : session_on done.state.volatile (channel_of (0x84 + channel)) ≡ Some (having_sent session command) → done.state.registry ≡ state.registry
+  pub open_after : session_on done.state.volatile (channel_of (on_channel 0x84 channel)) ≡ Some (having_sent session command) → done.state.registry ≡ state.registry
       → HasOpen done.state channel (having_sent session command)
   open_after on same = record {
     sound = steps_keep_sound state (command_bytes (wrapped_command session command channel)) after has.sound step;

@@ -1,6 +1,7 @@
 -- A load of an Executable Load File by the commands that pack makes, on a card that may take it.
 use Rattle.std.specs.Prelude.{◌≡◌, ◌≢◌, ℕ, ◌+◌, ◌<◌, ◌≤◌, List, [], ◌∷◌, None, Some, MatchOption, false, length}
 use Rattle.apdu_core.specs.Apdu.{Apdu}
+use Rattle.apdu_core.specs.ClassBytes.{IsBasicChannel}
 use Rattle.card_types.specs.Aid.{IsAid}
 use Rattle.card_types.specs.ChangeLaws.{IsFreeAid}
 use Rattle.card_types.specs.Privileges.{authorized_management}
@@ -41,7 +42,7 @@ AreAccepted session commands outcomes = ⊥
 -- The domain that is selected on a channel may load: it is not locked, it manages content in its own right, and the host has a session
 -- with it.
 pub record MayLoadOn (state : State) (channel : ℕ) (session : Session) : Type 0 where
-  pub low : channel < 4
+  pub low : IsBasicChannel channel
   pub in_session : session_on state.volatile channel ≡ Some session
   pub manages : HoldsPrivilege state.registry authorized_management (selected_on state.volatile channel)
   pub unlocked : MatchOption (entry_named state.registry (selected_on state.volatile channel)) ⊥ (λ entry. entry.life.locked ≡ false)

@@ -4,7 +4,7 @@ use Rattle.std.specs.Prelude.{◌≡◌, ℕ, List, Option, None, Some, slice_in
 use Rattle.apdu_core.specs.Apdu.{Apdu, Short, apdu_of}
 use Rattle.apdu_core.specs.Reply.{status_bytes}
 use Rattle.policy_machine.specs.Admission.{Admits, GeneralFails, admitted_as, command_rules}
-use Rattle.policy_machine.specs.Classes.{channel_of}
+use Rattle.apdu_core.specs.ClassBytes.{channel_of}
 use Rattle.policy_machine.specs.Refusal.{IsFirst}
 use Rattle.policy_machine.specs.Rules.{status_of}
 use Rattle.policy_machine.specs.Sound.{IsSound}

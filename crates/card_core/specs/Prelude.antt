@@ -1,5 +1,6 @@
 -- The names that contracts and proofs here cite, passed on from one place. Declares nothing.
 pub use Rattle.apdu_core.specs.Apdu.{Apdu, Short, apdu_of}
+pub use Rattle.apdu_core.specs.ClassBytes.{channel_of}
 pub use Rattle.apdu_core.specs.Reply.{status_bytes}
 pub use Rattle.arrayvec.specs.ArrayVec.{array_vec_len}
 pub use Rattle.bertlv.specs.Spelling.{Appends, AreElements, Element, Spelling}
@@ -72,7 +73,7 @@ pub use Rattle.policy_machine.specs.Admission.{Admits, Admitted, GeneralFails, G
 pub use Rattle.policy_machine.specs.Arranged.{IsArranged}
 pub use Rattle.policy_machine.specs.CardStatus.{managed_card_status}
 pub use Rattle.policy_machine.specs.Changes.{Changes, OpensInSession}
-pub use Rattle.policy_machine.specs.Classes.{IsKnown, IsPlainGetData, IsPlainManagement, changing, channel_of, class_of, instructions_of, is_protected, is_secure, managing, protects}
+pub use Rattle.policy_machine.specs.Classes.{IsKnown, IsPlainGetData, IsPlainManagement, changing, class_of, instructions_of, is_protected, is_secure, managing, protects}
 pub use Rattle.policy_machine.specs.CommandForm.{CommandForm}
 pub use Rattle.policy_machine.specs.Commands.{HasEffect, IsBuilt, Judges, Takes, TakesCommand}
 pub use Rattle.policy_machine.specs.DataObjects.{has_tag_in, is_object_of, new_tags, with_data, with_object, with_objects}

@@ -2,7 +2,7 @@
 
 ghost use Rattle.std.specs.Prelude.{◌≡◌, ◌≢◌, ◌↔◌, IsTrue, false, true, IfOk, IfErr, ℕ, List, None, Some, slice_index_or};
 ghost use Rattle.card_core.specs.Prelude.{GeneralFails, GeneralRefusalLeaves, IsFirst, IsKnown, IsTerminatedFor, RepresentsState, Short, State, apdu_of, class_of, command_rules, general_rules, is_domain_in};
-ghost use Rattle.policy_machine.specs.Classes.{channel_of as channel_of_byte};
+ghost use Rattle.apdu_core.specs.ClassBytes.{channel_of as channel_of_byte};
 
 use apdu_core::Command;
 use bitflags::Flags;

@@ -5,7 +5,8 @@ use Rattle.std.specs.Prelude.{◌≡◌, ◌≢◌, ◌⊎◌, ℕ, List, [], �
 use Rattle.apdu_core.specs.Apdu.{Apdu, Short}
 use Rattle.card_types.specs.Registry.{entry_named, is_domain}
 use Rattle.card_types.specs.declared.card_life.CardLife.TheVariants.{Terminated}
-use Rattle.policy_machine.specs.Classes.{class_of, channel_of, is_protected, IsKnown, IsPlainGetData, IsPlainManagement}
+use Rattle.apdu_core.specs.ClassBytes.{channel_of}
+use Rattle.policy_machine.specs.Classes.{class_of, is_protected, IsKnown, IsPlainGetData, IsPlainManagement}
 use Rattle.policy_machine.specs.Refusal.{IsFirst}
 use Rattle.policy_machine.specs.State.{State, Channel, Secured, SecureChannel, Volatile, channel_at, selected_on, session_on, with_channel, with_secure_channel, without_load, without_offer, without_session}
 use Rattle.policy_machine.specs.declared.instruction.TheConstants.{SELECT, MANAGE_CHANNEL, EXTERNAL_AUTHENTICATE, LOAD}

@@ -1,6 +1,7 @@
 -- Class bytes and instructions (ISO/IEC 7816-4:2013, 5.4 and 5.5; GlobalPlatform Card Specification 2.3.1, 11.1.4).
-use Rattle.std.specs.Prelude.{◌≡◌, ℕ, Bool, true, false, ◌&&◌, not, ◌/◌, ◌%◌, List, [], ◌∷◌, ◌++◌, Option, None, Some, if◌then◌else◌, ◌==◌, Contains, MatchOption}
+use Rattle.std.specs.Prelude.{◌≡◌, ℕ, Bool, true, false, ◌&&◌, not, List, [], ◌∷◌, ◌++◌, Option, None, Some, if◌then◌else◌, ◌==◌, Contains, MatchOption}
 use Rattle.apdu_core.specs.Apdu.{Apdu}
+use Rattle.apdu_core.specs.ClassBytes.{off_channel}
 use Rattle.policy_machine.specs.declared.class.Class.{Class}
 use Rattle.policy_machine.specs.declared.class.Class.TheVariants.{Interindustry, Plain, Secure}
 use Rattle.policy_machine.specs.declared.instruction.TheConstants.{SELECT, MANAGE_CHANNEL, GET_DATA, INITIALIZE_UPDATE, EXTERNAL_AUTHENTICATE}
@@ -8,14 +9,10 @@ use Rattle.policy_machine.specs.declared.instruction.TheConstants.{SELECT, MANAG
 -- the class of a class byte, whatever its channel
 abbrev pub class_of : ℕ → Option Class
 class_of byte =
-    if byte / 4 == 0x00 then Some Interindustry
-    else if byte / 4 == 0x20 then Some Plain
-    else if byte / 4 == 0x21 then Some Secure
+    if off_channel byte == 0x00 then Some Interindustry
+    else if off_channel byte == 0x80 then Some Plain
+    else if off_channel byte == 0x84 then Some Secure
     else None
-
--- the low two bits name the logical channel
-abbrev pub channel_of : ℕ → ℕ
-channel_of byte = byte % 4
 
 -- PUT KEY, STORE DATA, DELETE, INSTALL, LOAD and SET STATUS: the instructions of card content management that change the registry
 abbrev pub changing : List ℕ

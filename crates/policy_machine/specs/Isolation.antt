@@ -7,7 +7,8 @@ use Rattle.domain_tree.specs.Above.{IsAboveIn}
 use Rattle.tokens_receipts.specs.Token.{token}
 use Rattle.policy_machine.specs.Admission.{Admits, Admitted, Of}
 use Rattle.policy_machine.specs.Charge.{HoldsPrivilege, IsAtOrAbove}
-use Rattle.policy_machine.specs.Classes.{changing, channel_of}
+use Rattle.apdu_core.specs.ClassBytes.{channel_of}
+use Rattle.policy_machine.specs.Classes.{changing}
 use Rattle.policy_machine.specs.Commands.{TakesCommand}
 use Rattle.policy_machine.specs.DeleteObject.{global_delete}
 use Rattle.policy_machine.specs.Delegation.{Holds, IsVerifier}

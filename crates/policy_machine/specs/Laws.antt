@@ -4,7 +4,7 @@ use Rattle.card_types.specs.Registry.{IsAscending, Registry}
 use Rattle.card_types.specs.Well.{Well}
 use Rattle.policy_machine.specs.Admission.{Of}
 use Rattle.policy_machine.specs.Changes.{Changes, OpensInSession, without_number}
-use Rattle.policy_machine.specs.Classes.{channel_of}
+use Rattle.apdu_core.specs.ClassBytes.{channel_of}
 use Rattle.policy_machine.specs.Commands.{AtMostOne, Takes, forms_of}
 use Rattle.policy_machine.specs.Receipts.{AllCountReceipts, CountsReceipts}
 use Rattle.policy_machine.specs.Run.{Input, Run}

@@ -1,6 +1,7 @@
 -- The names that contracts and proofs here cite, passed on from one place. Declares nothing.
 pub use Rattle.aes_block.specs.Cipher.{IsBlock}
 pub use Rattle.apdu_core.specs.Apdu.{Apdu, Short}
+pub use Rattle.apdu_core.specs.ClassBytes.{channel_of}
 pub use Rattle.bertlv.specs.Spelling.{AreElements, BeginsWith, Element, Spelling}
 pub use Rattle.bertlv.specs.Tag.{TagBytes, TagGoesOn}
 pub use Rattle.card_types.specs.Aid.{IsAid, aid_order, same_aid}
@@ -20,7 +21,7 @@ pub use Rattle.policy_machine.specs.Arranged.{IsArranged}
 pub use Rattle.policy_machine.specs.CardStatus.{managed_card_status}
 pub use Rattle.policy_machine.specs.Changes.{Changes, IsSameButCounters, OpensInSession, without_number}
 pub use Rattle.policy_machine.specs.Charge.{IsAtOrAbove, IsFileInCharge, IsInCharge, is_privileged}
-pub use Rattle.policy_machine.specs.Classes.{IsKnown, IsPlainManagement, changing, channel_of, class_of, instructions_of, is_protected, is_secure, managing, protects}
+pub use Rattle.policy_machine.specs.Classes.{IsKnown, IsPlainManagement, changing, class_of, instructions_of, is_protected, is_secure, managing, protects}
 pub use Rattle.policy_machine.specs.CommandForm.{CommandForm}
 pub use Rattle.policy_machine.specs.Commands.{AtMostOne, DoesAs, FormFails, HasEffect, Judges, JudgesAs, JudgesForm, OneOf, Takes, TakesCommand, form_rules, forms_if, forms_of}
 pub use Rattle.policy_machine.specs.DataObjects.{AreObjects, has_tag_in, is_object_of, new_tags, with_data, with_object, with_objects}

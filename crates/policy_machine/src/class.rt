@@ -1,13 +1,14 @@
 //! Class bytes (ISO/IEC 7816-4:2013, 5.4; GlobalPlatform Card Specification 2.3.1, 11.1.4).
 
 ghost use Rattle.std.specs.Prelude.{◌≡◌, ◌↔◌, IsTrue, Contains, Some};
-ghost use Rattle.policy_machine.specs.Classes.{class_of as class_of_byte, channel_of as channel_of_byte, instructions_of, managing, protects};
+ghost use Rattle.policy_machine.specs.Classes.{class_of as class_of_byte, instructions_of, managing, protects};
 ghost use Rattle.policy_machine.specs.declared.class.Class.TheVariants.{Plain as ThePlain};
 
 use crate::instruction::{
     DELETE, EXTERNAL_AUTHENTICATE, GET_DATA, GET_STATUS, INITIALIZE_UPDATE, INSTALL, LOAD,
     MANAGE_CHANNEL, PUT_KEY, SELECT, SET_STATUS, STORE_DATA,
 };
+use apdu_core::off_channel;
 
 /// The classes that a card takes.
 #[derive(Clone, Copy, Debug, PartialEq, Eq)]
@@ -36,10 +37,10 @@ impl Class {
     pub fn of(byte: u8) -> Option<Class>
         ensures { result ≡ class_of_byte byte }
     {
-        match byte >> 2 {
+        match off_channel(byte) {
             0x00 => Some(Class::Interindustry),
-            0x20 => Some(Class::Plain),
-            0x21 => Some(Class::Secure),
+            0x80 => Some(Class::Plain),
+            0x84 => Some(Class::Secure),
             _ => None,
         }
     }
@@ -68,11 +69,4 @@ pub fn is_protected(class: Class, ins: u8) -> bool
     ensures { result ≡ protects (Some class) ins }
 {
     class == Class::Secure && ins != EXTERNAL_AUTHENTICATE
-}
-
-/// The logical channel that a class byte names.
-pub fn channel_of(byte: u8) -> u8
-    ensures { result ≡ channel_of_byte byte }
-{
-    byte % 4
 }

@@ -28,9 +28,10 @@ mod rule;
 mod select;
 mod store_data;
 
+pub use apdu_core::channel_of;
 pub use card_status::RuleSC;
 pub use channels::CHANNELS;
-pub use class::{Class, channel_of, is_plain_management, is_protected};
+pub use class::{Class, is_plain_management, is_protected};
 pub use delegation::{RuleRC, RuleTK};
 pub use delete_key::RuleDK;
 pub use delete_object::RuleDO;

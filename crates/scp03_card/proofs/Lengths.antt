@@ -2,6 +2,8 @@
 use Rattle.std.proofs.Common.{◌≡◌, ℕ, ◌+◌, ◌-◌, ◌*◌, ◌/◌, ◌<◌, Option, List, ◌∷◌, ◌++◌, length, take, refl, sym, ap, ◌∙◌, arith}
 use Rattle.std.proofs.lemmas.List.{length-append, length-take-le, take_at}
 use Rattle.apdu_core.specs.Apdu.{Apdu}
+use Rattle.apdu_core.specs.ClassBytes.{IsBasicChannel, off_channel, on_channel}
+use Rattle.apdu_core.proofs.ClassBytes.{is_of_class}
 use Rattle.card_types.specs.Level.{code_of}
 use Rattle.card_types.specs.declared.level.Level.{Level}
 use Rattle.cmac_kdf.specs.Cmac.{cmac}
@@ -44,10 +46,10 @@ authentic_sent session command field e =
     let same : field_of command ≡ field = field_sent command field _ e (length-c_mac session (message command field)) in
     e ∙ (λ i. sym same i ++ c_mac (with_message session (message command (sym same i))))
 
-pub first_message_is : (offer : Offer) (level : Level) (channel : ℕ) (body : List ℕ) (le : Option ℕ) → channel < 4
-    → message (record { class = 0x84 + channel; ins = 0x82; p1 = code_of level; p2 = 0x00; body = body; le = le }) (host_cryptogram offer) ≡ authentication offer level
+pub first_message_is : (offer : Offer) (level : Level) (channel : ℕ) (body : List ℕ) (le : Option ℕ) → IsBasicChannel channel
+    → message (record { class = on_channel 0x84 channel; ins = 0x82; p1 = code_of level; p2 = 0x00; body = body; le = le }) (host_cryptogram offer) ≡ authentication offer level
 unfolding message
 first_message_is offer level channel body le lt =
-    let class : (0x84 + channel) / 4 * 4 ≡ 0x84 = omega arith in
+    let class : off_channel (on_channel 0x84 channel) ≡ 0x84 = is_of_class 0x84 channel refl lt in
     let lc : length (host_cryptogram offer) + 8 ≡ 0x10 = omega (arith, length-host_cryptogram offer) in
     (λ i. class i ∷ 0x82 ∷ code_of level ∷ 0x00 ∷ lc i ∷ host_cryptogram offer)

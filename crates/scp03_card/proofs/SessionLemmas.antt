@@ -6,6 +6,7 @@ use Rattle.std.specs.Int.{w128, to_be_bytes}
 use Rattle.aes_block.specs.Cipher.{cipher}
 use Rattle.apdu_core.specs.Apdu.{Apdu}
 use Rattle.apdu_core.specs.Reply.{status_bytes}
+use Rattle.apdu_core.specs.ClassBytes.{off_channel}
 use Rattle.cmac_kdf.specs.Blocks.{zero_block}
 use Rattle.cmac_kdf.specs.Cbc.{sealed}
 use Rattle.cmac_kdf.specs.Cmac.{cmac}
@@ -74,7 +75,7 @@ reply_field_none session (b ∷ bs) e = absurd (omega arith)
 
 -- the header of a command, with Lc
 abbrev pub header_of : Apdu → List ℕ → List ℕ
-header_of command field = command.class / 4 * 4 ∷ command.ins ∷ command.p1 ∷ command.p2 ∷ (length field + 8) ∷ []
+header_of command field = off_channel command.class ∷ command.ins ∷ command.p1 ∷ command.p2 ∷ (length field + 8) ∷ []
 
 -- a message is the header and the data field
 pub message_after : (chaining : List ℕ) (command : Apdu) (field : List ℕ) → (chaining ++ header_of command field) ++ field ≡ chaining ++ message command field

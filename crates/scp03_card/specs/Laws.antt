@@ -1,6 +1,7 @@
 -- The laws of protected commands (GlobalPlatform Amendment D, 6.2).
 use Rattle.std.specs.Prelude.{◌≡◌, ℕ, ◌+◌, ◌<◌, ◌≤◌, List, length, Option}
 use Rattle.apdu_core.specs.Apdu.{Apdu}
+use Rattle.apdu_core.specs.ClassBytes.{IsBasicChannel, on_channel}
 use Rattle.card_types.specs.Level.{code_of}
 use Rattle.card_types.specs.declared.level.Level.{Level}
 use Rattle.scp03_card.specs.Offer.{Offer, host_cryptogram}
@@ -18,5 +19,5 @@ PlainFits = (session : Session) (command : Apdu) (plain : List ℕ) → Opens se
 -- the first message of a session is that of EXTERNAL AUTHENTICATE, a command of class 84 on any channel
 abbrev pub FirstMessage : Type 0
 FirstMessage =
-    (offer : Offer) (level : Level) (channel : ℕ) (body : List ℕ) (le : Option ℕ) → channel < 4
-    → message (record { class = 0x84 + channel; ins = 0x82; p1 = code_of level; p2 = 0x00; body = body; le = le }) (host_cryptogram offer) ≡ authentication offer level
+    (offer : Offer) (level : Level) (channel : ℕ) (body : List ℕ) (le : Option ℕ) → IsBasicChannel channel
+    → message (record { class = on_channel 0x84 channel; ins = 0x82; p1 = code_of level; p2 = 0x00; body = body; le = le }) (host_cryptogram offer) ≡ authentication offer level

@@ -3,6 +3,7 @@
 use Rattle.std.specs.Prelude.{◌≡◌, ℕ, ◌+◌, ◌-◌, ◌*◌, ◌/◌, ◌%◌, ◌^◌, List, [], ◌∷◌, ◌++◌, length, take, drop}
 use Rattle.std.specs.List.{fold}
 use Rattle.apdu_core.specs.Apdu.{Apdu}
+use Rattle.apdu_core.specs.ClassBytes.{off_channel}
 use Rattle.card_types.specs.Level.{code_of}
 use Rattle.card_types.specs.declared.level.Level.{Level}
 use Rattle.cmac_kdf.specs.Blocks.{zero_block}
@@ -18,7 +19,7 @@ pub record Session : Type 0 where
 -- the message of a command: the class with its two bits for the channel cleared, INS, P1, P2, Lc with the eight bytes of the
 -- C-MAC, and the data field as it is sent, without the C-MAC (6.2.4)
 unfoldable pub message : Apdu → List ℕ → List ℕ
-message command field = command.class / 4 * 4 ∷ command.ins ∷ command.p1 ∷ command.p2 ∷ (length field + 8) ∷ field
+message command field = off_channel command.class ∷ command.ins ∷ command.p1 ∷ command.p2 ∷ (length field + 8) ∷ field
 
 -- the MAC chaining value after these messages: sixteen 00 before the first, and then the CMAC of the last value and the next
 -- message (6.2.4)

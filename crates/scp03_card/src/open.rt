@@ -13,7 +13,7 @@ use crate::refusals::OpenRefusal;
 use crate::session::Session;
 use crate::session_keys::SessionKeys;
 use aes_block::BlockKey;
-use apdu_core::Command;
+use apdu_core::{Command, off_channel};
 use card_types::Level;
 
 impl<K: BlockKey> Session<K> {
@@ -59,7 +59,7 @@ impl<K: BlockKey> Session<K> {
             → result ≡ chain_of (with_message session (message (apdu_of command.now) field.now)) }
     {
         let header = [
-            command.class / 4 * 4,
+            off_channel(command.class),
             command.ins,
             command.p1,
             command.p2,

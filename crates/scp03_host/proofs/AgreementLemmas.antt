@@ -1,5 +1,5 @@
 -- What the host sends opens at the card, and what the card answers gives the host the plain reply.
-use Rattle.std.proofs.Common.{◌≡◌, ℕ, ◌+◌, ◌*◌, ◌/◌, ◌^◌, ◌<◌, List, [], ◌∷◌, ◌++◌, length, refl, sym, ap, subst, ◌∙◌, arith, inl, inr}
+use Rattle.std.proofs.Common.{◌≡◌, ℕ, ◌+◌, ◌^◌, ◌<◌, List, [], ◌∷◌, ◌++◌, length, refl, sym, ap, subst, ◌∙◌, arith, inl, inr}
 use Rattle.std.specs.Prelude.{not}
 use Rattle.std.proofs.lemmas.Bool.{and_parts, cases_Bool, not-true, true≢false}
 use Rattle.std.proofs.lemmas.List.{drop_at, take_at}
@@ -8,6 +8,8 @@ use Rattle.std.specs.Int.{w128, to_be_bytes}
 use Rattle.aes_block.specs.Cipher.{cipher}
 use Rattle.apdu_core.specs.Apdu.{Apdu}
 use Rattle.apdu_core.specs.Reply.{status_bytes}
+use Rattle.apdu_core.specs.ClassBytes.{IsBasicChannel, off_channel, on_channel}
+use Rattle.apdu_core.proofs.ClassBytes.{is_of_class}
 use Rattle.cmac_kdf.specs.Blocks.{IsBytes}
 use Rattle.cmac_kdf.specs.Cbc.{sealed}
 use Rattle.cmac_kdf.proofs.CbcLemmas.{length-sealed}
@@ -31,11 +33,11 @@ unfolding next_icv command_icv
 icv_of_next session m = ap (λ (n : ℕ). cipher (s_enc session.offer) (to_be_bytes w128 n)) (sym (number_of_next session m))
 
 -- the channel is not in the message
-same_message : (session : Session) (command : Apdu) (channel : ℕ) (body : List ℕ) → channel < 4
+same_message : (session : Session) (command : Apdu) (channel : ℕ) (body : List ℕ) → IsBasicChannel channel
     → message (as_sent command channel body) (sent_field session command.body) ≡ message_of session command
 unfolding message
 same_message session command channel body small =
-    let class : (0x84 + channel) / 4 * 4 ≡ 0x84 = omega arith in
+    let class : off_channel (on_channel 0x84 channel) ≡ 0x84 = is_of_class 0x84 channel refl small in
     (λ i. class i ∷ command.ins ∷ command.p1 ∷ command.p2 ∷ (length (sent_field session command.body) + 8) ∷ sent_field session command.body)
 
 gives_body : (session : Session) (m body : List ℕ) → IsBytes body → Gives (with_message session m) (sent_field session body) body
@@ -49,7 +51,7 @@ gives_body session m (b ∷ bs) bytes = elim (cases_Bool (has_c_decryption sessi
   | inr e ↦ subst (λ (f : List ℕ). Gives (with_message session m) f (b ∷ bs)) (sent_clear session (b ∷ bs) e) (gives_itself (with_message session m) (b ∷ bs) e)
 ]
 
-module _ (session : Session) (command : Apdu) (channel : ℕ) (small : channel < 4) (bytes : IsBytes command.body) where
+module _ (session : Session) (command : Apdu) (channel : ℕ) (small : IsBasicChannel channel) (bytes : IsBytes command.body) where
   field_is : field_of (wrapped_command session command channel) ≡ sent_field session command.body
   field_is =
       field_sent (wrapped_command session command channel) (sent_field session command.body) (c_mac (having_sent session command)) refl

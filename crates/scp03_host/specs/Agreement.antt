@@ -1,6 +1,7 @@
 -- Two ends that stand for one session go on doing so, over every list of commands and replies (GlobalPlatform Amendment D, 6.2).
 use Rattle.std.specs.Prelude.{◌≡◌, ℕ, ◌≤◌, ◌<◌, ◌^◌, List, [], ◌∷◌, All, length, if◌then◌else◌}
 use Rattle.apdu_core.specs.Apdu.{Apdu}
+use Rattle.apdu_core.specs.ClassBytes.{IsBasicChannel}
 use Rattle.card_types.specs.declared.level.Level.{Level}
 use Rattle.cmac_kdf.specs.Blocks.{IsBytes}
 use Rattle.scp03_card.specs.Kept.{KeptSession, RepresentsSession}
@@ -25,7 +26,7 @@ pub record Exchange : Type 0 where
 
 -- the host can send the command, and the reply is one
 pub record IsExchange (level : Level) (exchange : Exchange) : Type 0 where
-  pub channel : exchange.channel < 4
+  pub channel : IsBasicChannel exchange.channel
   pub bytes : IsBytes exchange.command.body
   pub fits : length exchange.command.body ≤ room_for level
   pub body : IsBytes exchange.body

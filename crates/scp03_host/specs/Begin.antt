@@ -1,7 +1,8 @@
 -- How the host begins a session: what it reads from the reply to INITIALIZE UPDATE, and the EXTERNAL AUTHENTICATE that it sends
 -- (GlobalPlatform Amendment D, 7.1.1, 7.1.2).
-use Rattle.std.specs.Prelude.{◌≡◌, ℕ, ◌+◌, List, ◌++◌, take, drop, None}
+use Rattle.std.specs.Prelude.{◌≡◌, ℕ, List, ◌++◌, take, drop, None}
 use Rattle.apdu_core.specs.Apdu.{Apdu}
+use Rattle.apdu_core.specs.ClassBytes.{on_channel}
 use Rattle.card_types.specs.Level.{code_of}
 use Rattle.card_types.specs.declared.level.Level.{Level}
 use Rattle.scp03_card.specs.Offer.{Offer, card_cryptogram, host_cryptogram}
@@ -26,7 +27,7 @@ ShowsKeys offer reply = cryptogram_in reply ≡ card_cryptogram offer
 -- EXTERNAL AUTHENTICATE, which answers an offer at a level
 abbrev pub answer_to : Offer → Level → ℕ → Apdu
 answer_to offer level channel = record {
-  class = 0x84 + channel;
+  class = on_channel 0x84 channel;
   ins = 0x82;
   p1 = code_of level;
   p2 = 0x00;

@@ -1,8 +1,9 @@
 -- The protected command that the host sends (GlobalPlatform Amendment D, 6.2.4, 6.2.6).
-use Rattle.std.specs.Prelude.{ℕ, ◌+◌, ◌%◌, ◌^◌, List, [], ◌∷◌, ◌++◌, length, None, if◌then◌else◌}
+use Rattle.std.specs.Prelude.{ℕ, ◌%◌, ◌^◌, List, [], ◌∷◌, ◌++◌, length, None, if◌then◌else◌}
 use Rattle.std.specs.Int.{w128, to_be_bytes}
 use Rattle.aes_block.specs.Cipher.{cipher}
 use Rattle.apdu_core.specs.Apdu.{Apdu}
+use Rattle.apdu_core.specs.ClassBytes.{on_channel}
 use Rattle.card_types.specs.declared.level.Level.{Level}
 use Rattle.cmac_kdf.specs.Cbc.{sealed}
 use Rattle.scp03_card.specs.Levels.{has_c_decryption}
@@ -12,7 +13,7 @@ use Rattle.scp03_card.specs.Session.{Session, c_mac, message, with_message}
 -- the command as it is sent: of class 84 with the channel, with another body, and without Le
 abbrev pub as_sent : Apdu → ℕ → List ℕ → Apdu
 as_sent command channel body = record {
-  class = 0x84 + channel;
+  class = on_channel 0x84 channel;
   ins = command.ins;
   p1 = command.p1;
   p2 = command.p2;

@@ -2,6 +2,7 @@
 
 ghost use Rattle.std.specs.Prelude.{◌≡◌, ◌≢◌, ◌↔◌, ◌<◌, ◌++◌, length, take, IfOk, OnOk, OnErr};
 ghost use Rattle.apdu_core.specs.Apdu.{Short};
+ghost use Rattle.apdu_core.specs.ClassBytes.{IsBasicChannel};
 ghost use Rattle.scp03_card.specs.Kept.{RepresentsSession};
 ghost use Rattle.scp03_card.specs.Offer.{Offer, host_cryptogram};
 ghost use Rattle.scp03_card.specs.Session.{chain_of, session_from};
@@ -10,7 +11,7 @@ ghost use Rattle.scp03_host.specs.Begin.{ShowsKeys, answer_to, offer_from_reply}
 use crate::host_session::HostSession;
 use crate::refusals::BeginRefusal;
 use aes_block::BlockKey;
-use apdu_core::Command;
+use apdu_core::{Command, on_channel};
 use arrayvec::ArrayVec;
 use card_types::Level;
 use cmac_kdf::CmacKey;
@@ -29,7 +30,7 @@ pub fn begin<K: BlockKey>(
     channel: u8,
     out: &mut ArrayVec<u8, 261>,
 ) -> Result<HostSession<K>, BeginRefusal>
-    requires { channel < 4 }
+    requires { IsBasicChannel channel }
     ensures session { IfOk result (λ kept. RepresentsSession kept
         (session_from (offer_from_reply (K.key_bytes keys.enc) (K.key_bytes keys.mac) (K.key_bytes keys.dek) host.now reply.now) level)) }
     ensures sent { OnOk result (Short
@@ -71,13 +72,13 @@ fn write_answer(
     chain: &[u8; 16],
     out: &mut ArrayVec<u8, 261>,
 )
-    requires { channel < 4 }
+    requires { IsBasicChannel channel }
     ensures { (offer : Offer) → cryptogram.now ≡ host_cryptogram offer → chain.now ≡ chain_of (session_from offer level)
         → Short (answer_to offer level channel) out.new.items }
 {
     let body = answer_body(cryptogram, chain);
     let command = Command {
-        class: 0x84 + channel,
+        class: on_channel(0x84, channel),
         ins: 0x82,
         p1: level.code(),
         p2: 0x00,

@@ -2,6 +2,7 @@
 
 ghost use Rattle.std.specs.Prelude.{◌≡◌, ◌↔◌, ◌+◌, ◌<◌, ◌≤◌, length, take, IsErr, OnOk, OnErr};
 ghost use Rattle.apdu_core.specs.Apdu.{Short, apdu_of};
+ghost use Rattle.apdu_core.specs.ClassBytes.{IsBasicChannel};
 ghost use Rattle.scp03_card.specs.Kept.{HasSessionKeys, RepresentsSession};
 ghost use Rattle.scp03_card.specs.Session as model;
 ghost use Rattle.scp03_card.specs.Session.{chain_of};
@@ -11,7 +12,7 @@ ghost use Rattle.scp03_host.specs.Wrapped.{having_sent, next_message, sent_field
 use crate::host_session::HostSession;
 use crate::refusals::TooLong;
 use aes_block::BlockKey;
-use apdu_core::Command;
+use apdu_core::{Command, on_channel};
 use arrayvec::ArrayVec;
 use card_types::Level;
 use scp03_card::{SessionKeys, has_c_decryption};
@@ -25,7 +26,7 @@ impl<K: BlockKey> HostSession<K> {
         channel: u8,
         out: &mut ArrayVec<u8, 261>,
     ) -> Result<(), TooLong>
-        requires { channel < 4 }
+        requires { IsBasicChannel channel }
         ensures sent { (session : model.Session) → RepresentsSession self.old session
             → OnOk result (Short (wrapped_command session (apdu_of plain.now) channel) out.new.items) }
         ensures accepted { (session : model.Session) → RepresentsSession self.old session → OnOk result (RepresentsSession self.new (having_sent session (apdu_of plain.now))) }
@@ -42,7 +43,7 @@ impl<K: BlockKey> HostSession<K> {
         let chain = self.chain_after(plain, &body[..len]);
         body[len..len + 8].copy_from_slice(&chain[..8]);
         let command = Command {
-            class: 0x84 + channel,
+            class: on_channel(0x84, channel),
             ins: plain.ins,
             p1: plain.p1,
             p2: plain.p2,

@@ -1,6 +1,7 @@
 -- How a session is opened (GlobalPlatform Amendment D, 7.1.1, 7.1.2).
 use Rattle.std.specs.Prelude.{ℕ, ◌+◌, List, [], length, drop, None, Some, ◌==◌, bytes_eq, if◌then◌else◌}
 use Rattle.apdu_core.specs.Apdu.{Apdu}
+use Rattle.apdu_core.specs.ClassBytes.{on_channel}
 use Rattle.scp03_card.specs.Offer.{Offer, card_cryptogram}
 use Rattle.scp03_card.specs.Session.{session_from}
 use Rattle.scp03_host.specs.Begin.{answer_to, cryptogram_in, offer_from_reply}
@@ -18,7 +19,7 @@ use Rattle.script_tool.specs.declared.word.Word.TheVariants.{Short}
 
 -- INITIALIZE UPDATE, with the key version number and the host challenge
 abbrev pub updating : ℕ → the_type.Opening → Apdu
-updating channel o = record { class = 0x80 + channel; ins = 0x50; p1 = o.version; p2 = 0x00; body = o.challenge; le = None }
+updating channel o = record { class = on_channel 0x80 channel; ins = 0x50; p1 = o.version; p2 = 0x00; body = o.challenge; le = None }
 
 -- the offer of a card with these keys
 abbrev pub offer_under : OfSize (Trio 16) (Trio 24) (Trio 32) → (host reply : List ℕ) → Offer

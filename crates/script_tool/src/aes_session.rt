@@ -1,6 +1,7 @@
 //! A session of the host, under keys of any length (GlobalPlatform Amendment D, 6.2).
 
 ghost use Rattle.std.specs.Prelude.{◌≡◌, ◌↔◌, ◌<◌, ◌≤◌, ℕ, List, length, IfOk, IsErr, OnOk, OnErr};
+ghost use Rattle.apdu_core.specs.ClassBytes.{IsBasicChannel};
 ghost use Rattle.script_tool.specs.Prelude.{HasRightMac, IsTooShort, RepresentsSession, Short, Unwraps, apdu_of, command_of_plain, having_sent, putting_keys, room_for, wrapped_command};
 ghost use Rattle.scp03_card.specs.Session as model;
 
@@ -61,7 +62,7 @@ impl AesSession {
         channel: u8,
         out: &mut ArrayVec<u8, 261>,
     ) -> Result<(), TooLong>
-        requires { channel < 4 }
+        requires { IsBasicChannel channel }
         ensures sent { (session : model.Session) → RepresentsSession self.old session
             → OnOk result (Short (wrapped_command session (apdu_of plain.now) channel) out.new.items) }
         ensures accepted { (session : model.Session) → RepresentsSession self.old session → OnOk result (RepresentsSession self.new (having_sent session (apdu_of plain.now))) }

@@ -1,6 +1,7 @@
 //! The sessions of a host (GlobalPlatform Amendment D, chapter 5).
 
 ghost use Rattle.std.specs.Prelude.{◌≡◌, ◌↔◌, ◌<◌, ◌≤◌, None, Some, length, IfErr, IfOk, IsErr, OnErr, OnOk};
+ghost use Rattle.apdu_core.specs.ClassBytes.{IsBasicChannel};
 ghost use Rattle.script_tool.specs.Prelude.{MayBeSession, RefusesAs, Session, Short, Unwraps, apdu_of, channel_number, having_sent, kept_on, no_kept, room_for, with_kept, wrapped_command};
 ghost use Rattle.script_tool.specs.declared.word.Word.TheVariants.{NoSession, TooLong as TooLongWord};
 
@@ -27,7 +28,7 @@ fn wrap_in(
     channel: u8,
     out: &mut ArrayVec<u8, 261>,
 ) -> Result<(), Word>
-    requires { channel < 4 }
+    requires { IsBasicChannel channel }
     ensures none { kept.old ≡ None → result ≡ Err NoSession }
     ensures sent { (session : Session) → MayBeSession kept.old (Some session)
         → OnOk result (Short (wrapped_command session (apdu_of plain.now) channel) out.new.items) }

@@ -12,7 +12,7 @@ use crate::link::{CardLink, LinkFailed};
 use crate::printout::{DONE, Printout};
 use crate::wire::Wire;
 use crate::word::Word;
-use apdu_core::Command;
+use apdu_core::{Command, on_channel};
 use arrayvec::ArrayVec;
 use scp03_host::BeginRefusal;
 use script_lines::{Channel, Opening};
@@ -49,7 +49,7 @@ fn write_update(channel: Channel, opening: &Opening, out: &mut ArrayVec<u8, 261>
     ensures { Short (updating (channel_number channel) opening.now) out.new.items }
 {
     let command = Command {
-        class: 0x80 + channel.number(),
+        class: on_channel(0x80, channel.number()),
         ins: 0x50,
         p1: opening.version,
         p2: 0x00,

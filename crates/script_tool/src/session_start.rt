@@ -1,6 +1,7 @@
 //! How a session begins, under keys of any length (GlobalPlatform Amendment D, 7.1.1, 7.1.2).
 
 ghost use Rattle.std.specs.Prelude.{◌≡◌, ◌≢◌, ◌↔◌, ◌<◌, length, IfOk, OnOk, OnErr};
+ghost use Rattle.apdu_core.specs.ClassBytes.{IsBasicChannel};
 ghost use Rattle.script_tool.specs.Prelude.{RepresentsSession, Short, ShowsKeys, answer_to, offer_from_reply, offer_under, session_from};
 
 use crate::aes_session::AesSession;
@@ -20,7 +21,7 @@ impl AesSession {
         channel: u8,
         out: &mut ArrayVec<u8, 261>,
     ) -> Result<AesSession, BeginRefusal>
-        requires { channel < 4 }
+        requires { IsBasicChannel channel }
         ensures session { IfOk result (λ kept. RepresentsSession kept (session_from (offer_under keys.now opening.now.challenge reply.now) opening.now.level)) }
         ensures sent { OnOk result (Short (answer_to (offer_under keys.now opening.now.challenge reply.now) opening.now.level channel) out.new.items) }
         ensures short { (result ≡ Err BeginRefusal.Short) ↔ (length reply.now ≢ 32) }
@@ -46,7 +47,7 @@ fn begun<K: BlockKey, const N: usize>(
     out: &mut ArrayVec<u8, 261>,
 ) -> Result<HostSession<K>, BeginRefusal>
     requires length { N ≡ K.LEN }
-    requires channel { channel < 4 }
+    requires channel { IsBasicChannel channel }
     ensures session { IfOk result (λ kept. RepresentsSession kept
         (session_from (offer_from_reply keys.now.enc keys.now.mac keys.now.dek opening.now.challenge reply.now) opening.now.level)) }
     ensures sent { OnOk result (Short

@@ -21,4 +21,4 @@ returns-clause-sent g c = λ session stands.
     (omega (arith, ap length mac, length-c_mac session (message_of session (apdu_of c.args.plain.now))))
     (omega (arith, c.write_field-len.array_long, c.write_field-len.ensures.length))
     ∙ (λ i. field i ++ mac i) in
-    subst (λ (b : List ℕ). Short (as_sent (apdu_of c.args.plain.now) c.args.channel b) c.write.new.out.items) body c.write.ensures.spelled
+    subst (λ (b : List ℕ). Short (as_sent (apdu_of c.args.plain.now) c.args.channel b) c.write.new.out.items) body (rw c.on_channel.ensures at c.write.ensures.spelled)
