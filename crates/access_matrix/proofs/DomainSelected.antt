@@ -1,5 +1,5 @@
 -- A card that was just powered on, on which a domain was selected: what is kept of it, and that it is sound.
-use Rattle.std.proofs.Common.{◌≡◌, ℕ, zero, suc, ◌<◌, List, Option, None, Some, refl, sym, arith}
+use Rattle.std.proofs.Common.{◌≡◌, ℕ, zero, suc, ◌-◌, ◌<◌, List, Option, None, Some, refl, sym, ap, subst, ◌∙◌}
 use Rattle.std.specs.Prelude.{IsSome, MatchOption, slice_index_or}
 use Rattle.std.specs.Option.{option_map}
 use Rattle.apdu_core.specs.Apdu.{Apdu}
@@ -9,9 +9,10 @@ use Rattle.card_types.specs.Represents.{Represents, domain_aid, thing_in}
 use Rattle.card_types.specs.Well.{Well}
 use Rattle.card_types.specs.declared.tables.Entry.{Entry}
 use Rattle.card_types.specs.declared.tables.Tables.{Tables}
-use Rattle.policy_machine.proofs.FreshChannel.{fresh_is_well}
+use Rattle.policy_machine.proofs.FreshChannel.{closed_past_first, each_alike, fresh_is_well}
 use Rattle.policy_machine.specs.Sound.{IsSound, IsWellChannel}
-use Rattle.policy_machine.specs.State.{channel_at, place_in}
+use Rattle.policy_machine.specs.State.{Channel, channel_at, place_in}
+use Rattle.policy_machine.specs.declared.channels.TheConstants.{CHANNELS}
 use Rattle.policy_slots.proofs.NearestHolder.{slot_named}
 use Rattle.policy_slots.specs.StateShown.{ActsIn, place_of, IsSelectedIn, RepresentsState}
 use Rattle.policy_slots.specs.LiveEnds.{first_live, live_with_channel}
@@ -26,21 +27,17 @@ module _ (page : ℕ → List ℕ) (tables : Tables) (said : Registry) (says : R
   abbrev aid : List ℕ
   aid = domain_aid tables.entries.items domain
 
-  selected_there : (number : ℕ) → number < 4
+  selected_there : (number : ℕ) → number < CHANNELS
       → IsSelectedIn tables.entries.items (slice_index_or (live_there domain).selected number None) (channel_at (with_domain said aid).volatile number)
   selected_there zero below = (entry, at, sym (domain_aid_is tables.entries.items domain entry at))
-  selected_there (suc zero) below = tt
-  selected_there (suc (suc zero)) below = tt
-  selected_there (suc (suc (suc zero))) below = tt
-  selected_there (suc (suc (suc (suc number)))) below = absurd (omega arith)
+  selected_there (suc number) below =
+      subst (λ (c : Option Channel). IsSelectedIn tables.entries.items (slice_index_or (live_there domain).selected (suc number) None) c) (sym (closed_past_first number))
+      (subst (λ (slot : Option ℕ). IsSelectedIn tables.entries.items slot None) (sym (each_alike None (CHANNELS - 1) number)) tt)
 
-  places_there : (number : ℕ) → number < 4
+  places_there : (number : ℕ) → number < CHANNELS
       → option_map place_of (slice_index_or (live_there domain).places number None) ≡ place_in (channel_at (with_domain said aid).volatile number)
   places_there zero below = refl
-  places_there (suc zero) below = refl
-  places_there (suc (suc zero)) below = refl
-  places_there (suc (suc (suc zero))) below = refl
-  places_there (suc (suc (suc (suc number)))) below = absurd (omega arith)
+  places_there (suc number) below = ap (option_map place_of) (each_alike None (CHANNELS - 1) number) ∙ sym (ap place_in (closed_past_first number))
 
   pub represented_there : RepresentsState page tables (live_there domain) (with_domain said aid)
   represented_there = record { registry = says; selected = selected_there; places = places_there; load = tt }
@@ -50,10 +47,7 @@ module _ (page : ℕ → List ℕ) (tables : Tables) (said : Registry) (says : R
 
   channels_there : (number : ℕ) → MatchOption (channel_at (with_domain said aid).volatile number) (Unit {0}) (IsWellChannel said)
   channels_there zero = fresh_is_well said aid named_there
-  channels_there (suc zero) = tt
-  channels_there (suc (suc zero)) = tt
-  channels_there (suc (suc (suc zero))) = tt
-  channels_there (suc (suc (suc (suc number)))) = tt
+  channels_there (suc number) = subst (λ (c : Option Channel). MatchOption c (Unit {0}) (IsWellChannel said)) (sym (closed_past_first number)) tt
 
   pub sound_there : Well said → IsSound (with_domain said aid)
   sound_there well = record {

@@ -1,5 +1,5 @@
 -- The factory card may take an Executable Load File.
-use Rattle.std.proofs.Common.{◌≢◌, ℕ, zero, suc, List, refl, sym, arith}
+use Rattle.std.proofs.Common.{◌≢◌, ℕ, zero, suc, List, Option, refl, sym, subst, arith}
 use Rattle.std.specs.Prelude.{MatchOption}
 use Rattle.std.specs.List.Sorted.{IsStrictlySortedBy}
 use Rattle.card_types.proofs.FactoryWell.{factory_well}
@@ -9,7 +9,8 @@ use Rattle.card_types.specs.ChangeLaws.{IsFreeAid}
 use Rattle.card_types.specs.Factory.{factory_registry}
 use Rattle.card_types.specs.declared.factory.TheConstants.{FACTORY_FILE, ISSUER}
 use Rattle.policy_machine.specs.Sound.{IsSound, IsWellChannel, IsWellOffer}
-use Rattle.policy_machine.specs.State.{channel_at}
+use Rattle.policy_machine.specs.State.{Channel, channel_at}
+use Rattle.policy_machine.proofs.FreshChannel.{closed_past_first}
 use Rattle.scp03_card.specs.Session.{Session}
 use Rattle.cap_pack.specs.FactoryLoads.{FactoryMayLoad, factory_in_session}
 
@@ -26,10 +27,7 @@ factory_ascending = record {
 module _ (session : Session) (well : IsWellOffer session.offer) where
   channels : (number : ℕ) → MatchOption (channel_at (factory_in_session session).volatile number) (Unit {0}) (IsWellChannel factory_registry)
   channels zero = record { selected = refl; secure_channel = (refl, well) }
-  channels (suc zero) = tt
-  channels (suc (suc zero)) = tt
-  channels (suc (suc (suc zero))) = tt
-  channels (suc (suc (suc (suc number)))) = tt
+  channels (suc number) = subst (λ (c : Option Channel). MatchOption c (Unit {0}) (IsWellChannel factory_registry)) (sym (closed_past_first number)) tt
 
   sound : IsSound (factory_in_session session)
   sound = record { well = factory_well; ascending = factory_ascending; fits = record { channels = refl; basic = refl; each = channels; load = tt } }

@@ -1,6 +1,7 @@
 -- For the code inside. What a card keeps of its channels: how it begins, and what a channel gets or loses.
-use Rattle.std.specs.Prelude.{ℕ, List, [], ◌∷◌, Option, slice_set, if◌then◌else◌, ◌==◌}
+use Rattle.std.specs.Prelude.{ℕ, List, Option, replicate, slice_set, if◌then◌else◌, ◌==◌}
 use Rattle.policy_machine.specs.Step.{keeps_load}
+use Rattle.policy_machine.specs.declared.channels.TheConstants.{CHANNELS}
 use Rattle.policy_machine.specs.declared.instruction.TheConstants.{LOAD}
 use Rattle.policy_machine.specs.declared.rule.Rule.{Rule}
 use Rattle.policy_slots.specs.LiveEnds.{live_with_channel, live_without_load}
@@ -10,9 +11,9 @@ use Rattle.card_core.specs.declared.channel_session.ChannelSession.{ChannelSessi
 use Rattle.card_core.specs.declared.channel_session.ChannelSession.TheVariants.{Nothing}
 use Rattle.card_core.specs.declared.channels.Channels.{Channels}
 
--- four channels without offer or session
+-- no channel has an offer or a session
 abbrev pub no_sessions : List ChannelSession
-no_sessions = Nothing ∷ Nothing ∷ Nothing ∷ Nothing ∷ []
+no_sessions = replicate CHANNELS Nothing
 
 -- the channel has this selected, or is closed, and all that it had has ended
 abbrev pub channels_with : Channels → ℕ → Option ℕ → Channels

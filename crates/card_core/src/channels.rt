@@ -6,6 +6,7 @@ ghost use Rattle.card_core.specs.Prelude.{channels_refused, channels_with, first
 use crate::channel_session::ChannelSession;
 use crate::loading::Loading;
 use policy_rules::{CHANNELS, Live, Rule};
+use std::array;
 
 /// The logical channels, and the load session that is on one of them.
 #[derive(Drop)]
@@ -29,12 +30,7 @@ impl Channels {
     {
         Channels {
             live: Live::powered_on(),
-            sessions: [
-                ChannelSession::Nothing,
-                ChannelSession::Nothing,
-                ChannelSession::Nothing,
-                ChannelSession::Nothing,
-            ],
+            sessions: array::from_fn(|_| ChannelSession::Nothing),
             loading: Loading::new(),
         }
     }

@@ -1,6 +1,7 @@
 -- The laws of GET STATUS.
 use Rattle.std.proofs.Common.{ap, ◌≡◌, ℕ, ◌<◌, List, [], ◌∷◌, ◌++◌, Some, refl, sym, subst, ◌∙◌, arith, inl}
 use Rattle.policy_machine.specs.Prelude.{Admitted, AreTemplates, Effect, Fits, GetStatusEffect, IsFullFor, IsLeftAt, IsSound, Place, Registry, Thing, Volatile, channel_at_place, get_status, with_place}
+use Rattle.policy_machine.specs.declared.channels.TheConstants.{CHANNELS}
 use Rattle.policy_machine.proofs.Lawful.{IsLawful, IsReady, same_as, sound_with, LoadStays}
 use Rattle.policy_machine.proofs.SameEffect.{effect_same, state_same}
 use Rattle.policy_machine.proofs.SecureChannelSet.{within}
@@ -8,14 +9,14 @@ use Rattle.policy_machine.proofs.SetChannel.{becomes_fits}
 use Rattle.policy_machine.proofs.GetStatusParts.{IsFullAfter, one_listing, one_part, one_templates}
 
 -- a channel has what it had, with another place
-place_fits : (registry : Registry) (volatile : Volatile) (number : ℕ) (place : Place) → Fits registry volatile → number < 4
+place_fits : (registry : Registry) (volatile : Volatile) (number : ℕ) (place : Place) → Fits registry volatile → number < CHANNELS
     → Fits registry (with_place volatile number place)
 place_fits registry volatile number place fits low =
     becomes_fits registry volatile number (channel_at_place place) (λ channel. record channel { place = Some place }) refl (λ channel. refl)
     (λ channel well. record { selected = well.selected; secure_channel = well.secure_channel }) (λ channel secured. secured)
     fits (within registry volatile number fits low)
 
-left_fits : (admitted : Admitted) (done : Effect) (shown left : List Thing) → Fits admitted.at.registry admitted.at.volatile → admitted.channel < 4
+left_fits : (admitted : Admitted) (done : Effect) (shown left : List Thing) → Fits admitted.at.registry admitted.at.volatile → admitted.channel < CHANNELS
     → IsLeftAt admitted done shown left → Fits admitted.at.registry done.state.volatile
 left_fits admitted done shown [] fits low is = subst (Fits admitted.at.registry) (sym is.0) fits
 left_fits admitted done shown (next ∷ left) fits low is =

@@ -1,7 +1,7 @@
 -- A card that is powered on is sound, and each step keeps it so.
-use Rattle.std.proofs.Common.{◌≡◌, ℕ, zero, suc, List, false, refl, sym, ap, subst, inl, inr}
+use Rattle.std.proofs.Common.{◌≡◌, ℕ, zero, suc, List, Option, false, refl, sym, ap, subst, inl, inr}
 use Rattle.std.specs.Prelude.{MatchOption}
-use Rattle.policy_machine.specs.Prelude.{Admits, Admitted, Apdu, Fits, GeneralRefusalLeaves, IsDomainNamed, IsSound, IsWellChannel, Nothing, Outcome, Registry, StartsSound, State, StepsKeepSound, Volatile, Well, channel_at, channel_of, class_passed, first_volatile, keeps_load, refusal_leaves, with_offer_dropped, without_load, without_session}
+use Rattle.policy_machine.specs.Prelude.{Admits, Admitted, Apdu, Channel, Fits, GeneralRefusalLeaves, IsDomainNamed, IsSound, IsWellChannel, Nothing, Outcome, Registry, StartsSound, State, StepsKeepSound, Volatile, Well, channel_at, channel_of, class_passed, first_volatile, keeps_load, refusal_leaves, with_offer_dropped, without_load, without_session}
 use Rattle.policy_machine.specs.declared.rule.RuleG.{RuleG}
 use Rattle.policy_machine.specs.declared.rule.RuleG.TheVariants.{G1, G2, G3, G4, G5, G6, G7, G8}
 use Rattle.policy_machine.proofs.Opened.{passed_protected}
@@ -9,16 +9,13 @@ use Rattle.policy_machine.proofs.Passing.{admitted_fits, admitted_loads, admitte
 use Rattle.policy_machine.proofs.SetChannel.{without_load_fits}
 use Rattle.policy_machine.proofs.SecureChannelSet.{dropped_fits, secure_channel_fits}
 use Rattle.policy_machine.proofs.FormTaken.{accepted_by}
-use Rattle.policy_machine.proofs.FreshChannel.{issuer_is_well}
+use Rattle.policy_machine.proofs.FreshChannel.{closed_past_first, issuer_is_well}
 use Rattle.policy_machine.proofs.Lawful.{IsReady, sound_with}
 use Rattle.policy_machine.specs.declared.rule.Rule.{Rule}
 
 first_channels : (registry : Registry) → Well registry → (number : ℕ) → MatchOption (channel_at first_volatile number) (Unit {0}) (IsWellChannel registry)
 first_channels registry well zero = issuer_is_well registry well
-first_channels registry well (suc zero) = tt
-first_channels registry well (suc (suc zero)) = tt
-first_channels registry well (suc (suc (suc zero))) = tt
-first_channels registry well (suc (suc (suc (suc number)))) = tt
+first_channels registry well (suc number) = subst (λ (c : Option Channel). MatchOption c (Unit {0}) (IsWellChannel registry)) (sym (closed_past_first number)) tt
 
 pub starts_sound : StartsSound
 starts_sound registry well ascending = record {

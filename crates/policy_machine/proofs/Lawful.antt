@@ -2,6 +2,7 @@
 use Rattle.std.proofs.Common.{◌≡◌, ◌≢◌, ◌⊎◌, ℕ, ◌<◌, ◌≤◌, false, Option, None, Some, refl, sym, ap, subst, ◌∙◌, inl, inr, arith}
 use Rattle.std.specs.Prelude.{◌==◌, Contains, IsSome, MatchOption}
 use Rattle.policy_machine.specs.Prelude.{Admitted, Apdu, Channel, CommandForm, Effect, Fits, IsAscending, IsDomainNamed, IsOfCard, IsSameButCounters, IsSound, JudgesAs, LoadSession, Registry, SecureChannel, State, TakesCommand, Volatile, Well, acting, channel_at, channel_with, load_without_channel, managing, place_in, with_channel, with_secure_channel}
+use Rattle.policy_machine.specs.declared.channels.TheConstants.{CHANNELS}
 use Rattle.policy_machine.specs.declared.instruction.TheConstants.{GET_STATUS, INSTALL, LOAD, MANAGE_CHANNEL, SELECT}
 use Rattle.std.proofs.lemmas.Bool.Decides.{eqb_tells}
 use Rattle.policy_machine.proofs.SetChannel.{HasSession, set_other, set_there}
@@ -9,7 +10,7 @@ use Rattle.policy_machine.proofs.SetChannel.{HasSession, set_other, set_there}
 -- what a command that has passed finds
 pub record IsReady (admitted : Admitted) : Type 0 where
   pub sound : IsSound admitted.at
-  pub low : admitted.channel < 4
+  pub low : admitted.channel < CHANNELS
   pub loads : (admitted.command.ins == LOAD) ≡ false → load_without_channel admitted.channel admitted.at.volatile.load ≡ admitted.at.volatile.load
   pub domain : admitted.command.ins ≢ SELECT → admitted.command.ins ≢ MANAGE_CHANNEL → IsDomainNamed admitted.at.registry (acting admitted)
   pub session : Contains managing admitted.command.ins → HasSession admitted.at.volatile admitted.channel

@@ -1,5 +1,5 @@
 -- The laws of MANAGE CHANNEL.
-use Rattle.std.proofs.Common.{◌≡◌, ◌⊎◌, ℕ, ◌≤◌, Option, None, Some, refl, sym, ap, subst, ◌∙◌, inl, inr, arith}
+use Rattle.std.proofs.Common.{◌≡◌, ◌⊎◌, ℕ, ◌<◌, ◌≤◌, Option, None, Some, refl, sym, ap, subst, ◌∙◌, inl, inr, arith}
 use Rattle.std.specs.Prelude.{MatchOption}
 use Rattle.card_types.specs.declared.factory.TheConstants.{ISSUER}
 use Rattle.policy_machine.specs.Prelude.{Admitted, Channel, Effect, IsClosed, IsClosedAlready, IsOpened, IsSameButCounters, IsSound, Judges, ManageChannelEffect, ManageChannelParameters, TakesCommand, channel_at, fresh, lowest_closed, manage_channel}
@@ -8,6 +8,7 @@ use Rattle.policy_machine.proofs.SecureChannelSet.{within}
 use Rattle.policy_machine.proofs.Lawful.{HasNoPlaceOn, IsLawful, LoadStays, found_so, load_ended, placeless_set, same_as, sound_with}
 use Rattle.policy_machine.proofs.FreshChannel.{issuer_is_well}
 use Rattle.policy_machine.proofs.Judging.{judged}
+use Rattle.policy_machine.specs.declared.channels.TheConstants.{CHANNELS}
 use Rattle.policy_machine.specs.declared.rule.Rule.TheVariants.{MC}
 use Rattle.policy_machine.specs.declared.manage_channel.RuleMC.{RuleMC}
 use Rattle.policy_machine.specs.declared.manage_channel.RuleMC.TheVariants.{MC1}
@@ -27,8 +28,8 @@ manages admitted done (inr closes) = inr (closes.0, by (channel_at admitted.at.v
     by None does = inl does
     by (Some channel) does = inr does
 
--- a channel to be closed is one of 1 to 3
-close_bounds : (p1 p2 : ℕ) → ManageChannelParameters p1 p2 → p1 ≡ 0x80 → (1 ≤ p2) × (p2 ≤ 3)
+-- a channel to be closed is not the first
+close_bounds : (p1 p2 : ℕ) → ManageChannelParameters p1 p2 → p1 ≡ 0x80 → (1 ≤ p2) × (p2 < CHANNELS)
 close_bounds p1 p2 (inl opens) closes = (let other = opens.0 in absurd (omega arith))
 close_bounds p1 p2 (inr bounds) closes = (bounds.1, bounds.2)
 

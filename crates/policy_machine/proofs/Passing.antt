@@ -3,6 +3,7 @@ use Rattle.std.proofs.Common.{◌≡◌, ◌≢◌, ℕ, ◌<◌, List, Bool, tr
 use Rattle.std.specs.Prelude.{IsSome, MatchOption, if◌then◌else◌, ◌==◌}
 use Rattle.std.proofs.lemmas.Bool.{cases_Bool, true≢false}
 use Rattle.policy_machine.specs.Prelude.{Apdu, Channel, Entry, Fits, FitsSecureChannel, GeneralFails, IsDomainNamed, IsFirst, IsSecured, IsTakenAs, IsWellChannel, LoadSession, Nothing, Opens, Registry, SecureChannel, Secured, Session, Short, State, Volatile, accepting, admitted_as, channel_at, channel_of, channel_passed, channel_with, class_passed, entry_named, general_rules, is_domain, is_protected, load_without_channel, message_joined, offer_passed, secure_channel_of, selected_of, selected_on, session_for, session_in, session_on, with_channel, without_load, without_place}
+use Rattle.policy_machine.specs.declared.channels.TheConstants.{CHANNELS}
 use Rattle.policy_machine.specs.State.{Offered}
 use Rattle.policy_machine.specs.declared.instruction.TheConstants.{SELECT, MANAGE_CHANNEL, EXTERNAL_AUTHENTICATE, LOAD}
 use Rattle.policy_machine.specs.declared.rule.RuleG.TheVariants.{G3, G4}
@@ -20,7 +21,7 @@ secure_channel_passed : (registry : Registry) (aid : List ℕ) (keeps : Bool) (s
 secure_channel_passed registry aid true secure_channel well = well
 secure_channel_passed registry aid false secure_channel well = well_dropped registry aid secure_channel well
 
-pub placeless_fits : (registry : Registry) (volatile : Volatile) (number : ℕ) (keeps : Bool) → Fits registry volatile → number < 4
+pub placeless_fits : (registry : Registry) (volatile : Volatile) (number : ℕ) (keeps : Bool) → Fits registry volatile → number < CHANNELS
     → Fits registry (without_place volatile number keeps)
 placeless_fits registry volatile number keeps fits low =
     becomes_fits registry volatile number (channel_passed keeps)
@@ -31,7 +32,7 @@ placeless_fits registry volatile number keeps fits low =
     })
     (λ channel secured. secured_passed keeps channel.secure_channel secured) fits (within registry volatile number fits low)
 
-pub channel_is_low : (class : ℕ) → channel_of class < 4
+pub channel_is_low : (class : ℕ) → channel_of class < CHANNELS
 channel_is_low class = omega arith
 
 pub class_fits : (registry : Registry) (volatile : Volatile) (command : Apdu) → Fits registry volatile → Fits registry (class_passed volatile command)

@@ -3,10 +3,11 @@ use Rattle.std.proofs.Common.{◌≡◌, ℕ, ◌<◌, List, Option, None, Some,
 use Rattle.std.specs.Prelude.{IsSome, MatchOption}
 use Rattle.std.proofs.lemmas.Bool.Decides.{eqb_tells}
 use Rattle.policy_machine.specs.Prelude.{Channel, Fits, FitsSecureChannel, IsSecured, IsWellChannel, IsWellLoad, LoadSession, Nothing, Offer, Registry, SecureChannel, Secured, Session, Volatile, channel_at, channel_with, load_without_channel, offer_in, offer_on, secure_channel_of, selected_of, selected_on, session_in, session_on, with_offer_dropped, with_secure_channel, without_load, without_offer}
+use Rattle.policy_machine.specs.declared.channels.TheConstants.{CHANNELS}
 use Rattle.policy_machine.specs.State.{Offered}
 use Rattle.policy_machine.proofs.SetChannel.{IsInSession, becomes_fits, ended_fits, set_fits}
 
-pub within : (registry : Registry) (volatile : Volatile) (number : ℕ) → Fits registry volatile → number < 4 → number < length volatile.channels
+pub within : (registry : Registry) (volatile : Volatile) (number : ℕ) → Fits registry volatile → number < CHANNELS → number < length volatile.channels
 within registry volatile number fits low = subst (λ (n : ℕ). number < n) (sym fits.channels) low
 
 well_so : (registry : Registry) (secure_channel : SecureChannel) (channel : Option Channel) → MatchOption channel (Unit {0}) (IsWellChannel registry)
@@ -63,7 +64,7 @@ is_offer : (secure_channel : SecureChannel) (offer : Offer) → offer_in secure_
 is_offer (Offered other) offer is = cc
 is_offer secure_channel offer is = absurd cc
 
-module _ (registry : Registry) (volatile : Volatile) (number : ℕ) (fits : Fits registry volatile) (low : number < 4) where
+module _ (registry : Registry) (volatile : Volatile) (number : ℕ) (fits : Fits registry volatile) (low : number < CHANNELS) where
   first_so : (secure_channel : SecureChannel) → number ≡ 0 → IsSome (channel_with secure_channel (channel_at volatile number))
   first_so secure_channel first = open_so secure_channel (channel_at volatile number) (subst (λ (n : ℕ). IsSome (channel_at volatile n)) (sym first) fits.basic)
 

@@ -1,19 +1,20 @@
 -- MANAGE CHANNEL (ISO/IEC 7816-4:2013, 11.1.2; GlobalPlatform Card Specification 2.3.1, 11.7): opens a logical channel, with
 -- the Issuer Security Domain selected, or closes one.
-use Rattle.std.specs.Prelude.{◌≡◌, ◌⊎◌, ℕ, ◌≤◌, List, [], ◌∷◌, Bool, true, false, Option, None, Some, MatchOption, position, codes}
+use Rattle.std.specs.Prelude.{◌≡◌, ◌⊎◌, ℕ, ◌<◌, ◌≤◌, List, [], ◌∷◌, Bool, true, false, Option, None, Some, MatchOption, position, codes}
 use Rattle.card_types.specs.declared.factory.TheConstants.{ISSUER}
 use Rattle.policy_machine.specs.Admission.{Admitted}
 use Rattle.policy_machine.specs.CommandForm.{CommandForm, unreceipted_form}
 use Rattle.policy_machine.specs.State.{Effect, Channel, channel_at, fresh, with_channel, without_channel}
 use Rattle.policy_machine.specs.Refusal.{Refusal, refusal}
+use Rattle.policy_machine.specs.declared.channels.TheConstants.{CHANNELS}
 use Rattle.policy_machine.specs.declared.rule.Rule.{Rule}
 use Rattle.policy_machine.specs.declared.rule.Rule.TheVariants.{MC}
 use Rattle.policy_machine.specs.declared.manage_channel.RuleMC.{RuleMC}
 use Rattle.policy_machine.specs.declared.manage_channel.RuleMC.TheVariants.{MC1}
 
--- 00 00 opens a channel, 80 and a number from 01 to 03 closes it
+-- 00 00 opens a channel, 80 and the number of one closes it, but for channel 0
 abbrev pub ManageChannelParameters : ℕ → ℕ → Type 0
-ManageChannelParameters p1 p2 = ((p1 ≡ 0x00) × (p2 ≡ 0x00)) ⊎ ((p1 ≡ 0x80) × (1 ≤ p2) × (p2 ≤ 3))
+ManageChannelParameters p1 p2 = ((p1 ≡ 0x00) × (p2 ≡ 0x00)) ⊎ ((p1 ≡ 0x80) × (1 ≤ p2) × (p2 < CHANNELS))
 
 abbrev pub ManageChannelField : List ℕ → Type 0
 ManageChannelField body = body ≡ []

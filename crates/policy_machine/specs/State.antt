@@ -1,9 +1,10 @@
 -- The whole of a card: its registry, and its volatile state, which is its logical channels, with what each has selected and holds
 -- (GlobalPlatform Card Specification 2.3.1, chapter 6; Amendment D, chapter 5), and the load session.
 use Rattle.std.specs.List.{slice_index_or}
-use Rattle.std.specs.Prelude.{ℕ, List, [], ◌∷◌, Option, None, Some, slice_set, if◌then◌else◌, ◌==◌}
+use Rattle.std.specs.Prelude.{ℕ, ◌-◌, List, [], ◌∷◌, Option, None, Some, replicate, slice_set, if◌then◌else◌, ◌==◌}
 use Rattle.card_types.specs.Registry.{Registry}
 use Rattle.card_types.specs.declared.factory.TheConstants.{ISSUER}
+use Rattle.policy_machine.specs.declared.channels.TheConstants.{CHANNELS}
 use Rattle.scp03_card.specs.Offer.{Offer}
 use Rattle.scp03_card.specs.Session.{Session}
 
@@ -35,7 +36,7 @@ pub record LoadSession : Type 0 where
   pub bytes : List ℕ
   pub blocks : ℕ
 
--- the four channels, each closed or open, and the load session, if there is one
+-- the channels, each closed or open, and the load session, if there is one
 pub record Volatile : Type 0 where
   pub channels : List (Option Channel)
   pub load : Option LoadSession
@@ -46,7 +47,7 @@ fresh aid = record { selected = aid; secure_channel = Nothing; place = None }
 
 -- after power on or reset channel 0 alone is open, with the Issuer Security Domain selected
 abbrev pub first_volatile : Volatile
-first_volatile = record { channels = Some (fresh ISSUER) ∷ None ∷ None ∷ None ∷ []; load = None }
+first_volatile = record { channels = Some (fresh ISSUER) ∷ replicate (CHANNELS - 1) None; load = None }
 
 abbrev pub channel_at : Volatile → ℕ → Option Channel
 channel_at volatile number = slice_index_or volatile.channels number None

@@ -1,5 +1,5 @@
 -- For the code inside. What a request of the code stands for.
-use Rattle.std.specs.Prelude.{◌≡◌, ◌≢◌, ℕ, ◌≤◌, List, [], ◌∷◌, Result, Ok, Err, length}
+use Rattle.std.specs.Prelude.{◌≡◌, ◌≢◌, ℕ, ◌<◌, ◌≤◌, List, [], ◌∷◌, Result, Ok, Err, length}
 use Rattle.apdu_core.specs.Apdu.{Apdu}
 use Rattle.card_types.specs.Level.{code_of}
 use Rattle.policy_machine.specs.CardStatus.{managed_card_status}
@@ -21,6 +21,7 @@ use Rattle.policy_machine.specs.ManageChannel.{manage_channel}
 use Rattle.policy_machine.specs.PutKey.{HasKeyFields, SentKey, managed_put_key}
 use Rattle.policy_machine.specs.Select.{select}
 use Rattle.policy_machine.specs.StoreData.{managed_store_data}
+use Rattle.policy_machine.specs.declared.channels.TheConstants.{CHANNELS}
 use Rattle.policy_machine.specs.declared.instruction.TheConstants.{EXTERNAL_AUTHENTICATE, GET_STATUS, LOAD}
 use Rattle.policy_machine.specs.declared.rule.Rule.{Rule}
 use Rattle.policy_machine.specs.ManagedForm.{command_form}
@@ -72,7 +73,7 @@ form_in (ListStatus request) = get_status
 abbrev pub Decodes : Request → ℕ → ℕ → List ℕ → Type 0
 Decodes (Select partial) p1 p2 body = partial.now ≡ body
 Decodes MoreChannel p1 p2 body = p1 ≡ 0x00
-Decodes (LessChannel number) p1 p2 body = (p1 ≡ 0x80) × (p2 ≡ number) × (1 ≤ number) × (number ≤ 3)
+Decodes (LessChannel number) p1 p2 body = (p1 ≡ 0x80) × (p2 ≡ number) × (1 ≤ number) × (number < CHANNELS)
 Decodes (Get tag) p1 p2 body = tag ≡ tag_of p1 p2
 Decodes (Initialize version challenge) p1 p2 body = (version ≡ p1) × (challenge.now ≡ body)
 Decodes (Authenticate level proof) p1 p2 body = (code_of level ≡ p1) × (proof.now ≡ body)

@@ -9,13 +9,16 @@ use crate::request::Request;
 use policy_machine::{CHANNELS, Rule, RuleMC, RulePS};
 use policy_slots::Live;
 
+// The last channel.
+const LAST: u8 = CHANNELS as u8 - 1;
+
 /// Reads P1, P2 and the data field.
 pub(crate) fn parse_manage_channel(p1: u8, p2: u8, body: &[u8]) -> Result<Request<'_>, Rule>
     ensures { Parses MANAGE_CHANNEL p1 p2 body.now result }
 {
     let request = match (p1, p2) {
         (0x00, 0x00) => Request::MoreChannel,
-        (0x80, 1..=3) => Request::LessChannel { number: p2 },
+        (0x80, 1..=LAST) => Request::LessChannel { number: p2 },
         _ => return Err(Rule::PS(RulePS::P)),
     };
     if !body.is_empty() {

@@ -1,14 +1,15 @@
 -- For the code inside. What the code keeps of the channels and of the load session: how it begins, where some of it ends, a place
 -- in a listing, and a block that is counted.
-use Rattle.std.specs.Prelude.{ℕ, ◌+◌, [], ◌∷◌, Option, None, Some, slice_set, if◌then◌else◌, ◌==◌}
+use Rattle.std.specs.Prelude.{ℕ, ◌+◌, ◌-◌, ◌∷◌, Option, None, Some, replicate, slice_set, if◌then◌else◌, ◌==◌}
 use Rattle.card_types.specs.declared.tables.TheConstants.{ISSUER_SLOT}
+use Rattle.policy_machine.specs.declared.channels.TheConstants.{CHANNELS}
 use Rattle.policy_slots.specs.declared.live.Live.{Live}
 use Rattle.policy_slots.specs.declared.live.LoadName.{LoadName}
 use Rattle.policy_slots.specs.declared.live.Place.{Place}
 
 -- after power on or reset channel 0 alone is open, with the Issuer Security Domain selected
 abbrev pub first_live : Live
-first_live = record { selected = Some ISSUER_SLOT ∷ None ∷ None ∷ None ∷ []; load = None; places = None ∷ None ∷ None ∷ None ∷ [] }
+first_live = record { selected = Some ISSUER_SLOT ∷ replicate (CHANNELS - 1) None; load = None; places = replicate CHANNELS None }
 
 -- the channel has no place in a listing
 abbrev pub live_without_place : Live → ℕ → Live

@@ -5,6 +5,7 @@ ghost use Rattle.std.specs.Prelude.{◌≡◌, ◌<◌, IfSome, None, position, 
 use arrayvec::ArrayVec;
 use card_types::{Aid, ISSUER_SLOT};
 use policy_machine::CHANNELS;
+use std::array;
 
 /// Where a listing of the registry goes on.
 #[derive(Drop, Debug)]
@@ -54,10 +55,12 @@ impl Live {
     pub fn powered_on() -> Live
         ensures { result ≡ first_live }
     {
+        let mut selected = [None; CHANNELS];
+        selected[0] = Some(ISSUER_SLOT);
         Live {
-            selected: [Some(ISSUER_SLOT), None, None, None],
+            selected,
             load: None,
-            places: [None, None, None, None],
+            places: array::from_fn(|_| None),
         }
     }
 
