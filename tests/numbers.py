@@ -11,6 +11,8 @@ from pathlib import Path
 
 CRATES = Path(__file__).resolve().parent.parent / "crates"
 LEFT_OUT = {"vectors", "cases", "aes_block"}
+# The files in which each name is tied to its number.
+TIES = "literals.rt"
 NAMES = {
     "45": "STORE_PAGES or GATE of page_journal",
     "46": "DESCRIPTOR of page_journal",
@@ -19,9 +21,8 @@ NAMES = {
     "608": "PAGES of flash_core",
     "239": "DATA_LIMIT of scp03_card",
 }
-# What these numbers say besides, or where a name is tied to its number.
+# What these numbers say besides.
 OTHERS = {
-    ("flash_core/src/literals.rt", "608"): "the tie",
     ("policy_machine/specs/GetStatus.antt", "239"): "part_limit, which the standard leaves open",
     ("scp03_host/src/wrap.rt", "239"): "the room of a command that is enciphered",
     ("scp03_host/specs/Wrapped.antt", "239"): "the same, defined",
@@ -29,7 +30,6 @@ OTHERS = {
     ("script_tool/src/loading.rt", "239"): "the same, as the shortest block",
     ("cap_pack/src/pack.rt", "239"): "the same, for commands of a pack",
     ("line_runs/src/bad_line.rt", "46"): "the room of a line",
-    ("card_types/specs/Factory.antt", "45"): "free slots for keys",
 }
 CONSTANT = re.compile(r"^ *(?:pub(?:\(crate\))? )?const \w+: \w+ = ")
 NUMBER = re.compile(r"(?<![\w.])(?:" + "|".join(NAMES) + r")(?![\w.])")
@@ -40,7 +40,7 @@ def main():
     used = set()
     for path in sorted([*CRATES.glob("*/src/**/*.rt"), *CRATES.glob("*/specs/*.antt")]):
         name = str(path.relative_to(CRATES))
-        if name.split("/")[0] in LEFT_OUT:
+        if name.split("/")[0] in LEFT_OUT or path.name == TIES:
             continue
         comment = "--" if path.suffix == ".antt" else "//"
         bare = []

@@ -124,6 +124,11 @@ refused_privileges = constant(install, "REFUSED")
 guarded = re.search(r"^const GUARDED: .*?\];$", install.read_text(), re.M | re.S).group(0)
 
 
+def tied(crate, name):
+    """The number that a constant of a crate is proved to be."""
+    return int(re.search(rf"\{{ {name} ≡ (\w+) \}}", (CRATES / crate / "src/literals.rt").read_text()).group(1), 0)
+
+
 def granted_by(name):
     if privileges[name] & refused_privileges:
         return "nobody"
@@ -157,16 +162,14 @@ limits["PAGE"] = int(re.search(r"pub bytes: \[u8; (\d+)\]", (CRATES / "flash_cor
 # The pages of a card, first and last of each part; and how many slots of a kind a page has, of how many bytes.
 pages = {"superblock": (0, 0)}
 for kind, count in (("entry", "ENTRIES"), ("file", "FILES"), ("key", "KEYS"), ("object", "OBJECTS")):
-    slots = CRATES / f"rec_store/src/{kind}_slot.rt"
-    first, size = constant(slots, "FIRST"), constant(slots, "SIZE")
+    first, size = tied("rec_store", f"FIRST_{kind.upper()}_PAGE"), tied("rec_store", f"{kind.upper()}_BYTES")
     pages[kind] = (first, first + limits[count] * size // limits["PAGE"] - 1)
     limits |= {f"{count}_A_PAGE": limits["PAGE"] // size, f"{kind.upper()}_BYTES": size}
-journal = text_of(CRATES / "page_journal/src", "*.rt")
 for name in ("GATE", "DESCRIPTOR"):
-    pages[name.lower()] = (number_in(journal, name), number_in(journal, name))
+    pages[name.lower()] = (tied("page_journal", name), tied("page_journal", name))
 limits["COPIES"] = constant(CRATES / "frame_pool/src/pool.rt", "FRAMES")
-pages["copies"] = (number_in(journal, "COPIES"), number_in(journal, "COPIES") + limits["COPIES"] - 1)
-load = number_in(journal, "FIRST_LOAD_PAGE")
+pages["copies"] = (tied("page_journal", "COPIES"), tied("page_journal", "COPIES") + limits["COPIES"] - 1)
+load = tied("page_journal", "FIRST_LOAD_PAGE")
 pages["unused"] = (pages["copies"][1] + 1, load - 1)
 pages["load"] = (load, load + limits["LOAD_PAGES"] - 1)
 limits["PAGES"] = constant(CRATES / "flash_core/src/page.rt", "PAGES")

@@ -26,6 +26,7 @@ use Rattle.std.specs.Option.{option_map}
 use Rattle.access_matrix.specs.Commands.{IsFirstFreeAid, numbered_aid}
 use Rattle.access_matrix.specs.Deeds.{IsThing}
 use Rattle.access_matrix.proofs.Pigeonhole.{no_more_names}
+use Rattle.card_types.specs.declared.limits.TheConstants.{ENTRIES, FILES}
 
 -- a slot holds a thing with the AID
 abbrev pub IsInSlot : Tables → List ℕ → Type 0
@@ -81,19 +82,23 @@ thing_among said aid (inr some) =
     Contains-append_right (map (λ e. e.aid) said.entries) (map (λ f. f.aid) said.files) aid
     (subst (Contains (map (λ f. f.aid) said.files)) ((same_aid_decides file.0.aid aid).0 file.2) (contains_map (λ f. f.aid) said.files file.0 file.1))
 
+-- as many things as there are slots for
+abbrev pub most_things : ℕ
+most_things = ENTRIES + FILES
+
 -- there are no more things than slots
-few_things : (said : Registry) → Well said → length (names said) ≤ 48
+few_things : (said : Registry) → Well said → length (names said) ≤ most_things
 few_things said well =
     let size : length (names said) ≡ length said.entries + length said.files =
     length-append (map (λ e. e.aid) said.entries) (map (λ f. f.aid) said.files)
     ∙ (λ i. length-map said.entries (λ e. e.aid) i + length-map said.files (λ f. f.aid) i) in
     omega (arith, size, well.few_entries, well.few_files)
 
-pub never_all : (tables : Tables) → IsInOrder tables → AreInSlots tables 49 → ⊥
+pub never_all : (tables : Tables) → IsInOrder tables → AreInSlots tables (most_things + 1) → ⊥
 never_all tables order all =
-    let fits : (i : ℕ) → i < 49 → i < 2 ^ 32 = λ i below. lt_of_lt_of_le below (lit≤ tt) in
-    let count : 49 ≤ length (names order.said) =
-    no_more_names numbered_aid 49 (names order.said) (λ i j less under. numbered_apart i j (fits i less) (fits j under))
+    let fits : (i : ℕ) → i < most_things + 1 → i < 2 ^ 32 = λ i below. lt_of_lt_of_le below (lit≤ tt) in
+    let count : most_things + 1 ≤ length (names order.said) =
+    no_more_names numbered_aid (most_things + 1) (names order.said) (λ i j less under. numbered_apart i j (fits i less) (fits j under))
     (λ i below. thing_among order.said (numbered_aid i) (thing_in_slot order.page tables order.said order.says (numbered_aid i) (all i below))) in
     omega (arith, count, few_things order.said order.well)
 

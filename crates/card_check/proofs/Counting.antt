@@ -13,6 +13,7 @@ use Rattle.card_types.proofs.Members.{contains_first, contains_later, mapped}
 use Rattle.card_check.specs.IsCard.{HasPages}
 use Rattle.page_journal.specs.Pages.{IsLoadPage}
 use Rattle.card_check.specs.LoadPages.{AreLoadPages}
+use Rattle.page_journal.proofs.PageKinds.{place_among}
 
 module _ {T : Type 0} where
   pub used_at_most : (slots : List (Option T)) → length (things_in slots) ≤ length slots
@@ -64,18 +65,18 @@ among q (x ∷ xs) is = elim (or_cases (eqb q x) (list_any (eqb q) xs) is) [
 ]
 
 places_differ : (x : ℕ) (pages : List ℕ) → IsLoadPage x → All IsLoadPage pages → AllByRecursion (λ y. nat_eq x y ≡ false) pages
-    → AllByRecursion (λ y. nat_eq (x - 96) y ≡ false) (map (λ page. page - 96) pages)
+    → AllByRecursion (λ y. nat_eq (place_among x) y ≡ false) (map place_among pages)
 places_differ x [] is all differ = tt
 places_differ x (y ∷ pages) is all differ =
     let other : IsLoadPage y = All-contains IsLoadPage (y ∷ pages) y all (contains_first y pages) in (
-      ne_eqb (x - 96) (y - 96) (λ same.
+      ne_eqb (place_among x) (place_among y) (λ same.
           (let alike : x ≡ y = omega (arith, is.0, other.0, same) in
           let itself : nat_eq x y ≡ true = eq-eqb x y alike in
           let unlike = differ.0 in cc)),
       places_differ x pages is (All-tail IsLoadPage y pages all) differ.1,
     )
 
-distinct_places : (pages : List ℕ) → All IsLoadPage pages → IsDistinct nat_eq pages → IsDistinct nat_eq (map (λ page. page - 96) pages)
+distinct_places : (pages : List ℕ) → All IsLoadPage pages → IsDistinct nat_eq pages → IsDistinct nat_eq (map place_among pages)
 unfolding IsDistinct
 distinct_places [] all apart = tt
 distinct_places (x ∷ pages) all apart = (
@@ -85,12 +86,12 @@ distinct_places (x ∷ pages) all apart = (
 
 pub few_load_pages : (pages : List ℕ) → AreLoadPages pages → length pages ≤ LOAD_PAGES
 few_load_pages pages are =
-    let places = map (λ page. page - 96) pages in
+    let places = map place_among pages in
     let few : length places ≤ LOAD_PAGES = length-le_from_distinct_below places LOAD_PAGES (distinct_places pages are.each are.apart) (λ q found.
-    (let from = mapped (λ page. page - 96) pages q (among q places found) in
+    (let from = mapped place_among pages q (among q places found) in
     let is : IsLoadPage from.0 = All-contains IsLoadPage pages from.0 are.each from.1 in
     omega (arith, is.0, is.1, from.2))) in
-    omega (arith, few, length-map pages (λ page. page - 96))
+    omega (arith, few, length-map pages place_among)
 
 -- the bytes of pages of 256 bytes each
 pub length_of_pages : (page : ℕ → List ℕ) → HasPages page → (numbers : List ℕ) → length (concat (map page numbers)) ≡ 256 * length numbers

@@ -10,6 +10,7 @@ use Rattle.card_types.proofs.Members.{contains_cases, contains_first, contains_l
 use Rattle.card_types.specs.declared.limits.TheConstants.{LOAD_PAGES}
 use Rattle.card_check.specs.LoadPages.{AreLoadPages, HasMarks, IsNewPage}
 use Rattle.page_journal.specs.Pages.{IsLoadPage}
+use Rattle.page_journal.proofs.PageKinds.{load_page_at}
 
 module _ {X : Type 0} where
   -- what is so of the members is so of all
@@ -77,19 +78,19 @@ no_marks = record {
   at = λ place within. (λ marked. absurd (no_mark LOAD_PAGES place marked), λ there. absurd (omega (arith, there.1)));
 }
 
-pub marks_push : (marks : List Bool) (before : List ℕ) (place page : ℕ) → HasMarks marks before → place < LOAD_PAGES → page ≡ 96 + place
+pub marks_push : (marks : List Bool) (before : List ℕ) (place page : ℕ) → HasMarks marks before → place < LOAD_PAGES → page ≡ load_page_at place
     → HasMarks (slice_set marks place true) (before ++ page ∷ [])
 marks_push marks before place page has within is = record {
   whole = length-set marks place true ∙ has.whole;
   at = λ other inside. elim (cases_eq other place) [
     | inl same ↦ (
-      λ marked. subst (Contains (before ++ page ∷ [])) (is ∙ ap (λ (n : ℕ). 96 + n) (sym same)) (Contains-push before page),
+      λ marked. subst (Contains (before ++ page ∷ [])) (is ∙ ap load_page_at (sym same)) (Contains-push before page),
       λ there. subst (λ (n : ℕ). get_or (set marks place true) n false ≡ true) (sym same) (get_or-set_same marks place true false (omega (arith, has.whole))),
     )
     | inr differs ↦
         (let kept : get_or (set marks place true) other false ≡ get_or marks other false = get_or-set_other marks place other true false differs in (
-          λ marked. Contains-append_left before (page ∷ []) (96 + other) ((has.at other inside).0 (sym kept ∙ marked)),
-          λ there. kept ∙ (has.at other inside).1 (elim (Contains-push_cases before page (96 + other) there) [
+          λ marked. Contains-append_left before (page ∷ []) (load_page_at other) ((has.at other inside).0 (sym kept ∙ marked)),
+          λ there. kept ∙ (has.at other inside).1 (elim (Contains-push_cases before page (load_page_at other) there) [
             | inl earlier ↦ earlier
             | inr last ↦ absurd (differs (omega (arith, last, is)))
           ]),

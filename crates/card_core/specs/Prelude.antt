@@ -118,13 +118,13 @@ pub use Rattle.policy_slots.specs.ObjectsHeld.{has_object_in, is_tagged_in}
 pub use Rattle.policy_slots.specs.StateShown.{ActsIn, ForActing, ForActingLive, ForEntry, IsLoadNamed, IsSelectedIn, RepresentsState, place_of}
 pub use Rattle.rec_store.specs.Contents.{Contents, IsUnwritten}
 pub use Rattle.rec_store.specs.FirstSlots.{HasFirst}
-pub use Rattle.rec_store.specs.Keeper.{SameElse, key_pages}
-pub use Rattle.rec_store.specs.Places.{entry_page, file_page, object_page}
+pub use Rattle.rec_store.specs.Keeper.{SameElse}
+pub use Rattle.rec_store.specs.Places.{entry_page, entry_pages, file_page, key_pages, object_page, object_pages}
 pub use Rattle.rec_store.specs.Reopens.{AreSpare, IsAtRest, IsFree, IsSpare, KeepsRegistry, Reopens, ReopensAsOne, ReopensEither, load_page, store_page}
 pub use Rattle.rec_store.specs.Room.{HasFramesFor, with_staged}
 pub use Rattle.rec_store.specs.StoredTables.{AreRoomy}
 pub use Rattle.registry.specs.Adding.{AddsEntry, AddsFile, NoneHas}
-pub use Rattle.registry.specs.Pages.{KeepsRoom, StagesChanged, entry_pages, object_pages, owner_pages, thing_page, thing_pages}
+pub use Rattle.registry.specs.Pages.{KeepsRoom, StagesChanged, owner_pages, thing_page, thing_pages}
 pub use Rattle.registry.specs.Removing.{IsNoDomain, IsUnloaded, RemovesEntry, entry_file, key_owner, object_owner, slot_without}
 pub use Rattle.registry.specs.Setting.{ChangesEntry, Moves}
 pub use Rattle.registry.specs.Tree.{IsSlotInTree, LocksTree, with_lock}

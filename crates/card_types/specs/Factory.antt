@@ -1,9 +1,10 @@
 -- The card as it leaves the factory, in slots and by names.
-use Rattle.std.specs.Prelude.{◌≡◌, ℕ, [], ◌∷◌, None, Some, replicate, false}
+use Rattle.std.specs.Prelude.{◌≡◌, ℕ, ◌-◌, [], ◌∷◌, None, Some, replicate, false}
 use Rattle.card_types.specs.Registry as registry
 use Rattle.card_types.specs.declared.card_life.CardLife.TheVariants.{OpReady}
 use Rattle.card_types.specs.declared.factory.TheConstants.{ISSUER, FACTORY_FILE, FACTORY_MODULE, FACTORY_PRIVILEGES, FACTORY_VERSION, FACTORY_KEY}
 use Rattle.card_types.specs.declared.life.Life.TheVariants.{Personalized}
+use Rattle.card_types.specs.declared.limits.TheConstants.{ENTRIES, FILES, KEYS, OBJECTS}
 use Rattle.card_types.specs.declared.tables.Entry.{Entry}
 use Rattle.card_types.specs.declared.tables.LoadFile.{LoadFile}
 use Rattle.card_types.specs.declared.tables.KeyRec.{KeyRec}
@@ -35,16 +36,16 @@ pub record IsFactoryKey (identifier : ℕ) (key : KeyRec) : Type 0 where
 -- the tables of the factory card
 pub record IsFactory (tables : Tables) : Type 0 where
   pub life : tables.life ≡ OpReady
-  pub entries : tables.entries.items ≡ Some factory_entry ∷ replicate 31 None
-  pub files : tables.files.items ≡ Some factory_file ∷ replicate 15 None
+  pub entries : tables.entries.items ≡ Some factory_entry ∷ replicate (ENTRIES - 1) None
+  pub files : tables.files.items ≡ Some factory_file ∷ replicate (FILES - 1) None
   pub first : KeyRec
   pub second : KeyRec
   pub third : KeyRec
   pub first_key : IsFactoryKey 1 first
   pub second_key : IsFactoryKey 2 second
   pub third_key : IsFactoryKey 3 third
-  pub keys : tables.keys.items ≡ Some first ∷ Some second ∷ Some third ∷ replicate 45 None
-  pub objects : tables.objects.items ≡ replicate 16 None
+  pub keys : tables.keys.items ≡ Some first ∷ Some second ∷ Some third ∷ replicate (KEYS - 3) None
+  pub objects : tables.objects.items ≡ replicate OBJECTS None
 
 -- a key of the factory's key set, by names
 abbrev pub key_of_factory : ℕ → registry.Key

@@ -3,8 +3,10 @@
 #![tactic(auto)]
 
 ghost use Rattle.std.specs.Prelude.{◌≤◌};
+ghost use Rattle.frame_pool.specs.declared.pool.TheConstants.{FRAMES};
 
 use flash_core::{FileFlash, Flash, Page};
+use frame_pool::FRAMES;
 use page_journal::PageStore;
 use std::alloc::Global;
 use std::env;
@@ -27,7 +29,7 @@ fn main(rt: HostRuntime) -> ExitCode {
     else {
         return ExitCode::from(1);
     };
-    if pages > 30 {
+    if usize::from(pages) > FRAMES {
         return ExitCode::from(1);
     }
     let flash = FileFlash::new(&rt, path.as_str());
@@ -40,7 +42,7 @@ fn main(rt: HostRuntime) -> ExitCode {
 
 /// Commits so many pages, so many times. Answers whether each commit was done.
 fn commits<F: Flash + Drop>(alloc: Global, flash: F, count: u32, pages: u16) -> bool
-    requires { pages ≤ 30 }
+    requires { pages ≤ FRAMES }
 {
     let Ok(mut store) = PageStore::mount(alloc, flash) else {
         return false;

@@ -7,6 +7,7 @@ ghost use Rattle.flash_core.specs.Memory.{uniform_page};
 ghost use Rattle.core.specs.Mem.Slots.{slots_items, slots_len, IsFull};
 ghost use Rattle.frame_pool.specs.Entries.{entries, AreLinked};
 ghost use Rattle.frame_pool.specs.Staged.{staged_at, with_page, with_bytes_at, AreDistinct};
+ghost use Rattle.frame_pool.specs.declared.pool.TheConstants.{FRAMES};
 
 use core::slots::{Lease, Slots, release, reserve};
 use flash_core::Page;
@@ -38,13 +39,14 @@ impl Model for FramePool {
     ghost use Rattle.flash_core.specs.declared.page.Page.{Page as PageOf};
     ghost use Rattle.frame_pool.specs.Staged.{AreDistinct};
     ghost use Rattle.frame_pool.specs.Entries.{entries, AreLinked};
+    ghost use Rattle.frame_pool.specs.declared.pool.TheConstants.{FRAMES};
 
     ghost Value = { List (ℕ × PageOf) };
 
     ghost view = { λ p. entries (take p.len (slots_items p.frames)) };
 
     ghost invariant = { λ p.
-        (slots_len p.frames ≡ 30) × IsFull p.frames × (p.len ≤ 30) × AreLinked (slots_items p.frames)
+        (slots_len p.frames ≡ FRAMES) × IsFull p.frames × (p.len ≤ FRAMES) × AreLinked (slots_items p.frames)
         × AreDistinct (entries (take p.len (slots_items p.frames)))
         × (lease_ptr p.lease ≡ slots_ptr p.frames) × (lease_len p.lease ≡ slots_len p.frames) × (lease_heap p.lease ≡ p.alloc) };
 }
@@ -95,7 +97,7 @@ impl FramePool {
     /// How many pages are staged.
     pub fn len(&self) -> usize
         ensures length { result ≡ length self.now }
-        ensures room { result ≤ 30 }
+        ensures room { result ≤ FRAMES }
         ensures distinct { AreDistinct self.now }
     {
         self.len
@@ -103,7 +105,7 @@ impl FramePool {
 
     /// How many more can be.
     pub fn spare(&self) -> usize
-        ensures { result + length self.now ≡ 30 }
+        ensures { result + length self.now ≡ FRAMES }
     {
         FRAMES - self.len
     }
@@ -136,7 +138,7 @@ impl FramePool {
 
     /// Lends a page for writing: the one that is staged, or another of zeros after the others.
     pub fn stage(&mut self, page: u16) -> &mut Page
-        requires { IsSome (staged_at self.old page) ⊎ (length self.old < 30) }
+        requires { IsSome (staged_at self.old page) ⊎ (length self.old < FRAMES) }
         ensures* writes_back { sem 𝓛 (LendsPage self.entry page result) }
         ensures value { result.now ≡ unwrap_or (staged_at self.old page) (uniform_page 0) }
     {
@@ -146,7 +148,7 @@ impl FramePool {
 
     // The place of a page, which is added after the others where it was not staged.
     fn place(&mut self, page: u16) -> usize
-        requires { IsSome (staged_at self.old page) ⊎ (length self.old < 30) }
+        requires { IsSome (staged_at self.old page) ⊎ (length self.old < FRAMES) }
         ensures found { slice_get self.new result ≡ Some (page, unwrap_or (staged_at self.old page) (uniform_page 0)) }
         ensures bytes { (w : PageOf) → with_bytes_at self.new result w ≡ with_page self.old page w }
     {
@@ -180,7 +182,7 @@ impl FramePool {
 
 // The place of a page, by the links from the first of the staged frames on.
 fn find(frames: &Slots<Frame>, len: usize, page: u16) -> Option<usize>
-    requires full { IsFull frames.now × (slots_len frames.now ≡ 30) × (len ≤ 30) }
+    requires full { IsFull frames.now × (slots_len frames.now ≡ FRAMES) × (len ≤ FRAMES) }
     requires linked { AreLinked (slots_items frames.now) }
     ensures some { IfSome result (λ at. (x : PageOf) × (slice_get (entries (take len (slots_items frames.now))) at ≡ Some (page, x))) }
     ensures first { IfSome result (λ at. (k : ℕ) (s : ℕ × PageOf) → k < at → slice_get (entries (take len (slots_items frames.now))) k ≡ Some s → s.0 ≢ page) }

@@ -12,6 +12,7 @@ use Rattle.page_journal.specs.Touches.{SameOutside, IsTorn, Touches}
 use Rattle.page_journal.proofs.Runs.{only_torn, then_only}
 use Rattle.page_journal.proofs.PageKinds.{IsGate, IsPage, descriptor_page, gate_page}
 use Rattle.page_journal.proofs.Lists.{no_gate, gate_same, stored_shut, shut, staged_store, Recorded, recorded_after, opened, closed_after, listed}
+use Rattle.frame_pool.specs.declared.pool.TheConstants.{FRAMES}
 
 -- what the gate is after a byte was written
 pub gate_is : (pages : List Page) (page : Page) (byte : ℕ) → slice_get pages gate_page ≡ Some page → get_or page.bytes 0 0 ≡ byte → is_open pages ≡ (byte == 165)
@@ -23,11 +24,18 @@ is_or_not false = inr refl
 
 -- no page of the list is part of the record
 outside : (p : ℕ) → IsPage p → IsRecord p → ⊥
-outside p (inl lt) r = omega (arith, lt, r.0)
-outside p (inr le) r = omega (arith, le, r.1)
+outside p (inl lt) (inl is) = omega (arith, lt, is)
+outside p (inl lt) (inr copy) = omega (arith, lt, copy.0)
+outside p (inr le) (inl is) = omega (arith, le, is)
+outside p (inr le) (inr copy) = omega (arith, le, copy.1)
+
+-- nor is the gate
+gate_unrecorded : IsRecord gate_page → ⊥
+gate_unrecorded (inl is) = omega (arith, is)
+gate_unrecorded (inr copy) = omega (arith, copy.0)
 
 module _ {F T : Type 0} (device : Flash F) (only : (f : F) (c : List Page) → T → device.left_since f (device.moment f) c → device.may_leave f c) (told : T)
-    (pool : List (ℕ × Page)) (some : 0 < length pool) (room : length pool ≤ 30) (homes : AreStorePages pool) (distinct : AreDistinct pool) (f0 : F) (closed : is_open (device.pages f0) ≡ false) where
+    (pool : List (ℕ × Page)) (some : 0 < length pool) (room : length pool ≤ FRAMES) (homes : AreStorePages pool) (distinct : AreDistinct pool) (f0 : F) (closed : is_open (device.pages f0) ≡ false) where
   -- power lost leaves the pages from before or those after
   abbrev pub Either : List ℕ → List Page → Type 0
   Either loose c = Leaves (stored_page (device.pages f0)) loose c ⊎ Leaves (current pool (device.pages f0)) [] c
@@ -46,7 +54,7 @@ module _ {F T : Type 0} (device : Flash F) (only : (f : F) (c : List Page) → T
           let d = torn.0 in
           let below = calm d torn.1 in
           let gate_d : is_open d ≡ false = gate_same d (device.pages f0) (below gate_page (omega arith)) ∙ closed in
-          let gate : is_open c ≡ false = gate_same c d (torn.2 gate_page (λ r. omega (arith, r.0))) ∙ gate_d in
+          let gate : is_open c ≡ false = gate_same c d (torn.2 gate_page gate_unrecorded) ∙ gate_d in
           inl (shut (stored_page (device.pages f0)) loose c gate (λ p lt. torn.2 p (outside p (inl lt)) ∙ below p (omega (arith, lt)) ∙ sym (stored_shut (device.pages f0) p closed))
           (λ p le tight. torn.2 p (outside p (inr le)) ∙ sym (stored_shut d p gate_d) ∙ (before d torn.1).load p le tight))
 

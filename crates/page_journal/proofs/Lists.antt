@@ -12,7 +12,8 @@ use Rattle.page_journal.specs.Store.{AreStorePages, StandsForList}
 use Rattle.page_journal.specs.Touches.{SameOutside}
 use Rattle.page_journal.specs.Pages.{IsStorePage}
 use Rattle.page_journal.proofs.Descriptors.{place_found, place_home}
-use Rattle.page_journal.proofs.PageKinds.{IsGate, IsPage, IsPastJournal, copy_page, descriptor_page, gate_page}
+use Rattle.page_journal.proofs.PageKinds.{IsGate, IsPage, IsPastJournal, IsPastStore, copy_page, descriptor_page, gate_page}
+use Rattle.frame_pool.specs.declared.pool.TheConstants.{FRAMES}
 
 abbrev Pages : Type 0
 Pages = List (ℕ × Page)
@@ -77,7 +78,7 @@ entry_at : (pool : Pages) (i : ℕ) → i < length pool → (e : ℕ × Page) ×
 entry_at pool i lt = ⊎_elim (λ (f : (x : ℕ × Page) × (i < length pool) × (slice_get pool i ≡ Some x) × (get_or pool i x ≡ x)). (f.0, f.2)) (λ (m : (length pool ≤ i) × (slice_get pool i ≡ None)). absurd (omega (arith, lt, m.0))) (slice_get_cases pool i).1
 
 -- a descriptor that names staged pages has a valid form
-pub names_valid : (pool : Pages) (bytes : List ℕ) → 0 < length pool → length pool ≤ 30 → AreStorePages pool → AreDistinct pool → Names pool bytes → IsValid bytes
+pub names_valid : (pool : Pages) (bytes : List ℕ) → 0 < length pool → length pool ≤ FRAMES → AreStorePages pool → AreDistinct pool → Names pool bytes → IsValid bytes
 names_valid pool bytes some room homes distinct names = record {
   some = omega (arith, names.count, some);
   room = omega (arith, names.count, room);
@@ -103,16 +104,16 @@ pub record Recorded (pool : Pages) (start c : List Page) : Type 0 where
 -- they stay so where only the gate and the pages in place are torn
 pub recorded_after : (inside : ℕ → Type 0) (pool : Pages) (start a c : List Page) → AreStorePages pool → ((p : ℕ) → inside p → IsGate p ⊎ IsStaged pool p) → SameOutside inside a c → Recorded pool start a → Recorded pool start c
 recorded_after inside pool start a c homes within same was = record {
-  names = subst (Names pool) (sym (descriptor_same c a (same descriptor_page (λ i. low descriptor_page (omega arith) (within descriptor_page i))))) was.names;
-  copies = λ i e lt is. same (copy_page i) (λ j. low (copy_page i) (omega arith) (within (copy_page i) j)) ∙ was.copies i e lt is;
+  names = subst (Names pool) (sym (descriptor_same c a (same descriptor_page (λ i. low descriptor_page (omega arith) (λ gate. omega (arith, gate)) (within descriptor_page i))))) was.names;
+  copies = λ i e lt is. same (copy_page i) (λ j. low (copy_page i) (omega arith) (λ gate. omega (arith, gate)) (within (copy_page i) j)) ∙ was.copies i e lt is;
   others = λ p out page. same p (λ i. ⊎_elim (λ gate. no_gate p page gate) out (within p i)) ∙ was.others p out page;
 }
   where
-    low : (p : ℕ) → descriptor_page ≤ p → IsGate p ⊎ IsStaged pool p → ⊥
-    low p le (inl gate) = omega (arith, le, gate)
-    low p le (inr is) = omega (arith, le, staged_store pool p homes is)
+    low : (p : ℕ) → IsPastStore p → (IsGate p → ⊥) → IsGate p ⊎ IsStaged pool p → ⊥
+    low p le other (inl gate) = other gate
+    low p le other (inr is) = omega (arith, le, staged_store pool p homes is)
 
-module _ (pool : Pages) (start c : List Page) (some : 0 < length pool) (room : length pool ≤ 30) (homes : AreStorePages pool) (distinct : AreDistinct pool) (closed : is_open start ≡ false) where
+module _ (pool : Pages) (start c : List Page) (some : 0 < length pool) (room : length pool ≤ FRAMES) (homes : AreStorePages pool) (distinct : AreDistinct pool) (closed : is_open start ≡ false) where
   unstaged : (p : ℕ) → staged_at pool p ≡ None → IsStaged pool p → ⊥
   unstaged p none is = absurd (cc (ap is_some none, is))
 

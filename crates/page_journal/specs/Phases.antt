@@ -1,5 +1,5 @@
 -- For the code inside. The pages that each part of a commit touches, and what it leaves there.
-use Rattle.std.specs.Prelude.{◌≡◌, ℕ, ◌+◌, ◌<◌, ◌≤◌, List, length, Some, IsSome, slice_get, slice_index}
+use Rattle.std.specs.Prelude.{◌≡◌, ◌⊎◌, ℕ, ◌+◌, ◌<◌, ◌≤◌, List, length, Some, IsSome, slice_get, slice_index}
 use Rattle.flash_core.specs.declared.page.Page.{Page}
 use Rattle.frame_pool.specs.Staged.{staged_at}
 use Rattle.frame_pool.specs.declared.pool.TheConstants.{FRAMES}
@@ -11,7 +11,7 @@ IsCopy page = (COPIES ≤ page) × (page < COPIES + FRAMES)
 
 -- the copies and the descriptor
 abbrev pub IsRecord : ℕ → Type 0
-IsRecord page = (DESCRIPTOR ≤ page) × (page < COPIES + FRAMES)
+IsRecord page = (page ≡ DESCRIPTOR) ⊎ IsCopy page
 
 -- a page that is staged
 abbrev pub IsStaged : List (ℕ × Page) → ℕ → Type 0

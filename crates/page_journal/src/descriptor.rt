@@ -57,7 +57,7 @@ fn is_named_before(bytes: &[u8; 256], index: usize) -> bool
 
 /// Where a page stands: in a copy, where there is a descriptor that names it, and otherwise at home.
 pub fn place_after(journal: &Option<Page>, page: u16) -> u16
-    requires { IfSome journal.now (λ d. slice_index d.bytes 0 ≤ 30) }
+    requires { IfSome journal.now (λ d. slice_index d.bytes 0 ≤ FRAMES) }
     ensures place { result ≡ place_of_page journal.now page }
     ensures bound { page < PAGES → result < PAGES }
 {

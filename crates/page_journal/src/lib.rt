@@ -40,11 +40,13 @@ mod cause;
 mod commit;
 mod descriptor;
 mod laws;
+mod literals;
 mod pages;
 mod steps;
 mod store;
 
 pub use cause::{MountCause, MountError};
 pub use laws::pages_stand;
+pub use literals::constants;
 pub use pages::{FIRST_LOAD_PAGE, GATE, STORE_PAGES};
 pub use store::PageStore;

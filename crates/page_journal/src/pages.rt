@@ -4,13 +4,13 @@
 pub const STORE_PAGES: u16 = 45;
 
 /// The gate: open where its first byte is `OPEN`.
-pub const GATE: u16 = 45;
+pub const GATE: u16 = STORE_PAGES;
 
 /// The descriptor.
-pub const DESCRIPTOR: u16 = 46;
+pub const DESCRIPTOR: u16 = GATE + 1;
 
 /// The first of the copies.
-pub const COPIES: u16 = 47;
+pub const COPIES: u16 = DESCRIPTOR + 1;
 
 /// The first load page.
 pub const FIRST_LOAD_PAGE: u16 = 96;

@@ -28,6 +28,7 @@ use Rattle.rec_store.specs.declared.store_layout.Layout.{Layout}
 use Rattle.rec_store.specs.declared.store_layout.Layout.TheVariants.{Third}
 use Rattle.rec_store.proofs.Roomy.{of_all_set}
 use Rattle.rec_store.proofs.Staging.{IsKept, held_anew, held_apart, kept_anew, page_apart, page_here}
+use Rattle.rec_store.specs.declared.slot_places.TheConstants.{ENTRY_BYTES, FILE_BYTES, FIRST_ENTRY_PAGE, FIRST_FILE_PAGE, FIRST_KEY_PAGE, FIRST_OBJECT_PAGE, KEY_BYTES, OBJECT_BYTES}
 
 module _ (pool : List (ℕ × Page)) (pages : List Page) (page : ℕ) (x : Page) (t u : Tables) where
   abbrev new : ℕ → List ℕ
@@ -41,10 +42,10 @@ module _ (pool : List (ℕ × Page)) (pages : List Page) (page : ℕ) (x : Page)
   life_set was life sets is anew = subst (HoldsTables Third new) (sym sets) (record {
     slots = record { entries = was.slots.entries; files = was.slots.files; keys = was.slots.keys; objects = was.slots.objects };
     superblock = subst (λ bytes. IsSuperblock bytes Third life) (sym (ap new (sym is) ∙ page_here pool pages page x)) anew;
-    entries = held_apart HoldsEntry (current_page pool pages) new page apart 1 64 ENTRIES t.entries.items (λ i lt e. omega (arith, e, is)) was.entries;
-    files = held_apart HoldsFile (current_page pool pages) new page apart 9 256 FILES t.files.items (λ i lt e. omega (arith, e, is)) was.files;
-    keys = held_apart HoldsKey (current_page pool pages) new page apart 25 64 KEYS t.keys.items (λ i lt e. omega (arith, e, is)) was.keys;
-    objects = held_apart HoldsObject (current_page pool pages) new page apart 37 128 OBJECTS t.objects.items (λ i lt e. omega (arith, e, is)) was.objects;
+    entries = held_apart HoldsEntry (current_page pool pages) new page apart FIRST_ENTRY_PAGE ENTRY_BYTES ENTRIES t.entries.items (λ i lt e. omega (arith, e, is)) was.entries;
+    files = held_apart HoldsFile (current_page pool pages) new page apart FIRST_FILE_PAGE FILE_BYTES FILES t.files.items (λ i lt e. omega (arith, e, is)) was.files;
+    keys = held_apart HoldsKey (current_page pool pages) new page apart FIRST_KEY_PAGE KEY_BYTES KEYS t.keys.items (λ i lt e. omega (arith, e, is)) was.keys;
+    objects = held_apart HoldsObject (current_page pool pages) new page apart FIRST_OBJECT_PAGE OBJECT_BYTES OBJECTS t.objects.items (λ i lt e. omega (arith, e, is)) was.objects;
     fits = tt;
   })
 
@@ -70,19 +71,19 @@ module _ {F : Type 0} (device : Flash F) (store after : Store F) (page : ℕ) (x
     kept_superblock : 0 < page → IsSuperblock (now 0) Third t.life
     kept_superblock out = subst (λ bytes. IsSuperblock bytes Third t.life) (sym (apart_now 0 (λ e. omega (arith, e, out)))) was.superblock
 
-    kept_entries : 9 ≤ page → AreHeld HoldsEntry (entry_slot now) ENTRIES t.entries.items
-    kept_entries out = held_apart HoldsEntry old now page apart_now 1 64 ENTRIES t.entries.items (λ i lt e. omega (arith, out, e, lt)) was.entries
+    kept_entries : FIRST_FILE_PAGE ≤ page → AreHeld HoldsEntry (entry_slot now) ENTRIES t.entries.items
+    kept_entries out = held_apart HoldsEntry old now page apart_now FIRST_ENTRY_PAGE ENTRY_BYTES ENTRIES t.entries.items (λ i lt e. omega (arith, out, e, lt)) was.entries
 
-    kept_files : (page < 9) ⊎ (25 ≤ page) → AreHeld HoldsFile (file_slot now) FILES t.files.items
-    kept_files out = held_apart HoldsFile old now page apart_now 9 256 FILES t.files.items (λ i lt e. ⊎_elim (λ low. omega (arith, low, e)) (λ high. omega (arith, high, e, lt)) out) was.files
+    kept_files : (page < FIRST_FILE_PAGE) ⊎ (FIRST_KEY_PAGE ≤ page) → AreHeld HoldsFile (file_slot now) FILES t.files.items
+    kept_files out = held_apart HoldsFile old now page apart_now FIRST_FILE_PAGE FILE_BYTES FILES t.files.items (λ i lt e. ⊎_elim (λ low. omega (arith, low, e)) (λ high. omega (arith, high, e, lt)) out) was.files
 
-    kept_keys : (page < 25) ⊎ (37 ≤ page) → AreHeld HoldsKey (key_slot now) KEYS t.keys.items
-    kept_keys out = held_apart HoldsKey old now page apart_now 25 64 KEYS t.keys.items (λ i lt e. ⊎_elim (λ low. omega (arith, low, e)) (λ high. omega (arith, high, e, lt)) out) was.keys
+    kept_keys : (page < FIRST_KEY_PAGE) ⊎ (FIRST_OBJECT_PAGE ≤ page) → AreHeld HoldsKey (key_slot now) KEYS t.keys.items
+    kept_keys out = held_apart HoldsKey old now page apart_now FIRST_KEY_PAGE KEY_BYTES KEYS t.keys.items (λ i lt e. ⊎_elim (λ low. omega (arith, low, e)) (λ high. omega (arith, high, e, lt)) out) was.keys
 
-    kept_objects : page < 37 → AreHeld HoldsObject (object_slot now) OBJECTS t.objects.items
-    kept_objects out = held_apart HoldsObject old now page apart_now 37 128 OBJECTS t.objects.items (λ i lt e. omega (arith, out, e)) was.objects
+    kept_objects : page < FIRST_OBJECT_PAGE → AreHeld HoldsObject (object_slot now) OBJECTS t.objects.items
+    kept_objects out = held_apart HoldsObject old now page apart_now FIRST_OBJECT_PAGE OBJECT_BYTES OBJECTS t.objects.items (λ i lt e. omega (arith, out, e)) was.objects
 
-  pub entry_set : (slot n : ℕ) (value : Option Entry) → n ≡ slot → slot < ENTRIES → page ≡ entry_page slot → HoldsPage HoldsEntry 64 x.bytes (slot / 4) (slice_set t.entries.items n value) → IsKept device after (record t { entries = with_item t.entries n value })
+  pub entry_set : (slot n : ℕ) (value : Option Entry) → n ≡ slot → slot < ENTRIES → page ≡ entry_page slot → HoldsPage HoldsEntry ENTRY_BYTES x.bytes (slot / (256 / ENTRY_BYTES)) (slice_set t.entries.items n value) → IsKept device after (record t { entries = with_item t.entries n value })
   entry_set slot n value same lt is in_page =
       let roomy = kept.0 in
       let slots : HasSlots (record t { entries = with_item t.entries n value }) = record { entries = length-set t.entries.items n value ∙ roomy.slots.entries; files = roomy.slots.files; keys = roomy.slots.keys; objects = roomy.slots.objects } in
@@ -90,14 +91,14 @@ module _ {F : Type 0} (device : Flash F) (store after : Store F) (page : ℕ) (x
       (λ was. record {
         slots = slots;
         superblock = kept_superblock was (omega (arith, is));
-        entries = held_anew HoldsEntry old now page apart_now 1 64 x.bytes ENTRIES slot n value t.entries.items same is here in_page (omega arith) was.entries;
+        entries = held_anew HoldsEntry old now page apart_now FIRST_ENTRY_PAGE ENTRY_BYTES x.bytes ENTRIES slot n value t.entries.items same is here in_page (omega arith) was.entries;
         files = kept_files was (inl (omega (arith, is, lt)));
         keys = kept_keys was (inl (omega (arith, is, lt)));
         objects = kept_objects was (omega (arith, is, lt));
         fits = tt;
       })
 
-  pub file_set : (slot n : ℕ) (value : Option LoadFile) → n ≡ slot → slot < FILES → page ≡ 9 + slot / 1 → HoldsPage HoldsFile 256 x.bytes (slot / 1) (slice_set t.files.items n value) → IfSome value IsInLoadPages → IsKept device after (record t { files = with_item t.files n value })
+  pub file_set : (slot n : ℕ) (value : Option LoadFile) → n ≡ slot → slot < FILES → page ≡ FIRST_FILE_PAGE + slot / (256 / FILE_BYTES) → HoldsPage HoldsFile FILE_BYTES x.bytes (slot / (256 / FILE_BYTES)) (slice_set t.files.items n value) → IfSome value IsInLoadPages → IsKept device after (record t { files = with_item t.files n value })
   file_set slot n value same lt is in_page one =
       let roomy = kept.0 in
       let slots : HasSlots (record t { files = with_item t.files n value }) = record { entries = roomy.slots.entries; files = length-set t.files.items n value ∙ roomy.slots.files; keys = roomy.slots.keys; objects = roomy.slots.objects } in
@@ -106,13 +107,13 @@ module _ {F : Type 0} (device : Flash F) (store after : Store F) (page : ℕ) (x
         slots = slots;
         superblock = kept_superblock was (omega (arith, is));
         entries = kept_entries was (omega (arith, is));
-        files = held_anew HoldsFile old now page apart_now 9 256 x.bytes FILES slot n value t.files.items same is here in_page (omega arith) was.files;
+        files = held_anew HoldsFile old now page apart_now FIRST_FILE_PAGE FILE_BYTES x.bytes FILES slot n value t.files.items same is here in_page (omega arith) was.files;
         keys = kept_keys was (inl (omega (arith, is, lt)));
         objects = kept_objects was (omega (arith, is, lt));
         fits = tt;
       })
 
-  pub key_set : (slot n : ℕ) (value : Option KeyRec) → n ≡ slot → slot < KEYS → page ≡ key_page slot → HoldsPage HoldsKey 64 x.bytes (slot / 4) (slice_set t.keys.items n value) → IfSome value IsRoomyKey → IsKept device after (record t { keys = with_item t.keys n value })
+  pub key_set : (slot n : ℕ) (value : Option KeyRec) → n ≡ slot → slot < KEYS → page ≡ key_page slot → HoldsPage HoldsKey KEY_BYTES x.bytes (slot / (256 / KEY_BYTES)) (slice_set t.keys.items n value) → IfSome value IsRoomyKey → IsKept device after (record t { keys = with_item t.keys n value })
   key_set slot n value same lt is in_page one =
       let roomy = kept.0 in
       let slots : HasSlots (record t { keys = with_item t.keys n value }) = record { entries = roomy.slots.entries; files = roomy.slots.files; keys = length-set t.keys.items n value ∙ roomy.slots.keys; objects = roomy.slots.objects } in
@@ -122,12 +123,12 @@ module _ {F : Type 0} (device : Flash F) (store after : Store F) (page : ℕ) (x
         superblock = kept_superblock was (omega (arith, is));
         entries = kept_entries was (omega (arith, is));
         files = kept_files was (inr (omega (arith, is)));
-        keys = held_anew HoldsKey old now page apart_now 25 64 x.bytes KEYS slot n value t.keys.items same is here in_page (omega arith) was.keys;
+        keys = held_anew HoldsKey old now page apart_now FIRST_KEY_PAGE KEY_BYTES x.bytes KEYS slot n value t.keys.items same is here in_page (omega arith) was.keys;
         objects = kept_objects was (omega (arith, is, lt));
         fits = tt;
       })
 
-  pub object_set : (slot n : ℕ) (value : Option Object) → n ≡ slot → slot < OBJECTS → page ≡ object_page slot → HoldsPage HoldsObject 128 x.bytes (slot / 2) (slice_set t.objects.items n value) → IsKept device after (record t { objects = with_item t.objects n value })
+  pub object_set : (slot n : ℕ) (value : Option Object) → n ≡ slot → slot < OBJECTS → page ≡ object_page slot → HoldsPage HoldsObject OBJECT_BYTES x.bytes (slot / (256 / OBJECT_BYTES)) (slice_set t.objects.items n value) → IsKept device after (record t { objects = with_item t.objects n value })
   object_set slot n value same lt is in_page =
       let roomy = kept.0 in
       let slots : HasSlots (record t { objects = with_item t.objects n value }) = record { entries = roomy.slots.entries; files = roomy.slots.files; keys = roomy.slots.keys; objects = length-set t.objects.items n value ∙ roomy.slots.objects } in
@@ -138,7 +139,7 @@ module _ {F : Type 0} (device : Flash F) (store after : Store F) (page : ℕ) (x
         entries = kept_entries was (omega (arith, is));
         files = kept_files was (inr (omega (arith, is)));
         keys = kept_keys was (inr (omega (arith, is)));
-        objects = held_anew HoldsObject old now page apart_now 37 128 x.bytes OBJECTS slot n value t.objects.items same is here in_page (omega arith) was.objects;
+        objects = held_anew HoldsObject old now page apart_now FIRST_OBJECT_PAGE OBJECT_BYTES x.bytes OBJECTS slot n value t.objects.items same is here in_page (omega arith) was.objects;
         fits = tt;
       })
 

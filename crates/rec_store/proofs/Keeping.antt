@@ -5,14 +5,6 @@ use Rattle.std.proofs.lemmas.List.Elements.{All-nil}
 use Rattle.std.proofs.lemmas.List.FromFn.{get_or-range_with_len}
 use Rattle.card_types.specs.Represents.{things_in}
 use Rattle.card_types.specs.declared.limits.TheConstants.{KEYS}
-use Rattle.rec_store.specs.Keeper.{key_pages}
-use Rattle.rec_store.specs.Places.{key_page}
-
--- the page of a key slot is one of the key pages
-pub among_key_pages : (slot : ℕ) → slot < KEYS → Contains key_pages (key_page slot)
-among_key_pages slot lt =
-    let within : slot / 4 < 12 = omega (arith, lt) in
-    (slot / 4, within, get_or-range_with_len 25 12 (slot / 4) (key_page slot) within)
 
 -- `count` free slots, and all that they hold
 abbrev free_slots : {T : Type 0} → ℕ → List (Option T)

@@ -14,5 +14,6 @@ pub mod Readings
 pub mod Reopening
 pub mod Rooms
 pub mod Roomy
+pub mod SlotPages
 mod Staging
 mod Written

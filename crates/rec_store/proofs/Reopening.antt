@@ -30,6 +30,7 @@ use Rattle.rec_store.specs.declared.store_layout.Layout.{Layout}
 use Rattle.rec_store.proofs.OneRegistry.{same_pages}
 use Rattle.page_journal.specs.Pages.{IsStorePage}
 use Rattle.page_journal.proofs.PageKinds.{IsPastJournal, IsPastStore, journal_or_past}
+use Rattle.rec_store.specs.declared.slot_places.TheConstants.{ENTRY_BYTES, FILE_BYTES, FIRST_ENTRY_PAGE, FIRST_FILE_PAGE, FIRST_KEY_PAGE, FIRST_OBJECT_PAGE, KEY_BYTES, OBJECT_BYTES}
 
 -- store pages that are the same hold the same tables
 module _ (old new : ℕ → List ℕ) (same : (n : ℕ) → IsStorePage n → new n ≡ old n) where
@@ -41,10 +42,10 @@ module _ (old new : ℕ → List ℕ) (same : (n : ℕ) → IsStorePage n → ne
   tables_same {layout = layout} t was = record {
     slots = was.slots;
     superblock = subst (λ bytes. IsSuperblock bytes layout t.life) (sym (same 0 (omega arith))) was.superblock;
-    entries = held_same HoldsEntry 1 64 ENTRIES t.entries.items (λ i lt. omega (arith, lt)) was.entries;
-    files = held_same HoldsFile 9 256 FILES t.files.items (λ i lt. omega (arith, lt)) was.files;
-    keys = held_same HoldsKey 25 64 KEYS t.keys.items (λ i lt. omega (arith, lt)) was.keys;
-    objects = held_same HoldsObject 37 128 OBJECTS t.objects.items (λ i lt. omega (arith, lt)) was.objects;
+    entries = held_same HoldsEntry FIRST_ENTRY_PAGE ENTRY_BYTES ENTRIES t.entries.items (λ i lt. omega (arith, lt)) was.entries;
+    files = held_same HoldsFile FIRST_FILE_PAGE FILE_BYTES FILES t.files.items (λ i lt. omega (arith, lt)) was.files;
+    keys = held_same HoldsKey FIRST_KEY_PAGE KEY_BYTES KEYS t.keys.items (λ i lt. omega (arith, lt)) was.keys;
+    objects = held_same HoldsObject FIRST_OBJECT_PAGE OBJECT_BYTES OBJECTS t.objects.items (λ i lt. omega (arith, lt)) was.objects;
     fits = was.fits;
   }
 

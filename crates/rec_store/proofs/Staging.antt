@@ -20,6 +20,7 @@ use Rattle.rec_store.specs.Room.{HasFrame, with_staged}
 use Rattle.rec_store.specs.StoredTables.{AreHeld, AreRoomy, HoldsPage, HoldsTables}
 use Rattle.rec_store.specs.declared.store_layout.Layout.TheVariants.{Third}
 use Rattle.page_journal.specs.Pages.{IsStorePage}
+use Rattle.frame_pool.specs.declared.pool.TheConstants.{FRAMES}
 
 abbrev Pages : Type 0
 Pages = List (ℕ × Page)
@@ -42,7 +43,7 @@ count_numbers [] = refl
 count_numbers (first ∷ rest) = omega (arith, count_numbers rest)
 
 -- the page is staged, or there is a frame
-pub frame : (pool : Pages) (page : ℕ) → HasFrame (numbers pool) page → IsSome (staged_at pool page) ⊎ (length pool < 30)
+pub frame : (pool : Pages) (page : ℕ) → HasFrame (numbers pool) page → IsSome (staged_at pool page) ⊎ (length pool < FRAMES)
 frame pool page (inl among) = inl (some_staged pool page among)
 frame pool page (inr room) = inr (omega (arith, room, count_numbers pool))
 
@@ -121,7 +122,7 @@ module _ {T : Type 0} (holds : List ℕ → Option T → Type 0) (old new : ℕ 
       (λ put. held_set bytes count slot thing things is here put some was) in_page
 
 -- the frame for a page, by the numbers of the staged pages
-pub frame_for : (pool : Pages) (shown : List ℕ) (page : ℕ) → numbers pool ≡ shown → HasFrame shown page → IsSome (staged_at pool page) ⊎ (length pool < 30)
+pub frame_for : (pool : Pages) (shown : List ℕ) (page : ℕ) → numbers pool ≡ shown → HasFrame shown page → IsSome (staged_at pool page) ⊎ (length pool < FRAMES)
 frame_for pool shown page is room = frame pool page (subst (λ staged. HasFrame staged page) (sym is) room)
 
 -- what is kept of records

@@ -1,13 +1,9 @@
 -- What the changes of key slots need of a card's records, and what they leave.
-use Rattle.std.specs.Prelude.{◌≡◌, ℕ, List, true, refl}
-use Rattle.std.specs.List.{range_with_len}
+use Rattle.std.specs.Prelude.{◌≡◌, true, refl}
 use Rattle.std.proofs.Common.{◌∙◌}
 use Rattle.rec_store.specs.Contents.{Contents}
+use Rattle.rec_store.specs.Places.{key_pages}
 use Rattle.rec_store.specs.Room.{HasFramesFor}
-
--- the store pages with the key slots
-abbrev pub key_pages : List ℕ
-key_pages = range_with_len 25 12
 
 -- no commit has failed, and each key page is staged or there is a frame for it
 pub record IsRoomy {F : Type 0} (records : Contents F) : Type 0 where

@@ -1,22 +1,24 @@
 //! The slot of an application or a security domain.
 
 ghost use Rattle.rec_store.specs.EntrySlot.{HasThreeBytes, IsEntryIn};
-ghost use Rattle.std.proofs.Common.{lit<, lit≤, refl};
+ghost use Rattle.rec_store.specs.declared.slot_places.TheConstants.{FIRST_ENTRY_PAGE, ENTRY_BYTES};
+ghost use Rattle.std.proofs.Common.{lit<, refl};
 
 use crate::bytes::{aid_at, put_bytes, put_u16, put_u24, u24_at};
 use crate::slot::{BadSlot, Slot, USED};
+use crate::slot_places::{ENTRY_BYTES, FIRST_ENTRY_PAGE};
 use bitflags::Flags;
 use byteorder::{BigEndian, ByteOrder};
 use card_types::{Entry, LifeMark, Privileges};
 
 impl Slot for Entry {
-    ghost FIRST = { 1 };
+    ghost FIRST = { FIRST_ENTRY_PAGE };
 
-    const FIRST: u16 = 1;
+    const FIRST: u16 = FIRST_ENTRY_PAGE;
 
-    ghost SIZE = { 64 };
+    ghost SIZE = { ENTRY_BYTES };
 
-    const SIZE: usize = 64;
+    const SIZE: usize = ENTRY_BYTES;
 
     ghost is_in = { IsEntryIn };
 
@@ -49,5 +51,5 @@ impl Slot for Entry {
         put_u16(slot, 41, self.receipts);
     }
 
-    ghost sizes = { (lit< tt, refl, lit≤ tt) };
+    ghost sizes = { (lit< tt, refl, lit< tt) };
 }

@@ -4,22 +4,24 @@ ghost use Rattle.std.specs.Prelude.{◌≡◌, ◌<◌, ◌≤◌, ◌+◌, ◌-
 ghost use Rattle.rec_store.specs.Prelude.{IsFileIn, IsInLoadPages, IsLoadPage, page_in};
 ghost use Rattle.flash_core.specs.declared.page.TheConstants.{PAGES};
 ghost use Rattle.page_journal.specs.declared.pages.TheConstants.{FIRST_LOAD_PAGE};
-ghost use Rattle.std.proofs.Common.{lit<, lit≤, refl};
+ghost use Rattle.rec_store.specs.declared.slot_places.TheConstants.{FIRST_FILE_PAGE, FILE_BYTES};
+ghost use Rattle.std.proofs.Common.{lit<, refl};
 
 use crate::bytes::{aid_at, put_bytes, put_u16};
 use crate::slot::{BadSlot, Slot, USED};
+use crate::slot_places::{FILE_BYTES, FIRST_FILE_PAGE};
 use byteorder::{BigEndian, ByteOrder};
 use card_types::{FILE_LIMIT, LoadFile};
 use page_journal::FIRST_LOAD_PAGE;
 
 impl Slot for LoadFile {
-    ghost FIRST = { 9 };
+    ghost FIRST = { FIRST_FILE_PAGE };
 
-    const FIRST: u16 = 9;
+    const FIRST: u16 = FIRST_FILE_PAGE;
 
-    ghost SIZE = { 256 };
+    ghost SIZE = { FILE_BYTES };
 
-    const SIZE: usize = 256;
+    const SIZE: usize = FILE_BYTES;
 
     ghost is_in = { IsFileIn };
 
@@ -51,7 +53,7 @@ impl Slot for LoadFile {
         write_pages(&self.pages, usize::from(self.len).div_ceil(256), slot);
     }
 
-    ghost sizes = { (lit< tt, refl, lit≤ tt) };
+    ghost sizes = { (lit< tt, refl, lit< tt) };
 }
 
 // The numbers of the first so many load pages, and zeros after them.

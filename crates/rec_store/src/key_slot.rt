@@ -1,21 +1,23 @@
 //! The slot of a key.
 
 ghost use Rattle.rec_store.specs.KeySlot.{IsKeyIn, IsRoomyKey};
-ghost use Rattle.std.proofs.Common.{lit<, lit≤, refl};
+ghost use Rattle.rec_store.specs.declared.slot_places.TheConstants.{FIRST_KEY_PAGE, KEY_BYTES};
+ghost use Rattle.std.proofs.Common.{lit<, refl};
 
 use crate::bytes::{bytes_at, put_bytes, put_u24, u24_at};
 use crate::slot::{BadSlot, Slot, USED};
+use crate::slot_places::{FIRST_KEY_PAGE, KEY_BYTES};
 use arrayvec::ArrayVec;
 use card_types::KeyRec;
 
 impl Slot for KeyRec {
-    ghost FIRST = { 25 };
+    ghost FIRST = { FIRST_KEY_PAGE };
 
-    const FIRST: u16 = 25;
+    const FIRST: u16 = FIRST_KEY_PAGE;
 
-    ghost SIZE = { 64 };
+    ghost SIZE = { KEY_BYTES };
 
-    const SIZE: usize = 64;
+    const SIZE: usize = KEY_BYTES;
 
     ghost is_in = { IsKeyIn };
 
@@ -55,5 +57,5 @@ impl Slot for KeyRec {
         put_u24(slot, 37, self.counter);
     }
 
-    ghost sizes = { (lit< tt, refl, lit≤ tt) };
+    ghost sizes = { (lit< tt, refl, lit< tt) };
 }

@@ -1,22 +1,24 @@
 //! The slot of a data object.
 
 ghost use Rattle.rec_store.specs.ObjectSlot.{IsObjectIn};
-ghost use Rattle.std.proofs.Common.{lit<, lit≤, refl};
+ghost use Rattle.rec_store.specs.declared.slot_places.TheConstants.{FIRST_OBJECT_PAGE, OBJECT_BYTES};
+ghost use Rattle.std.proofs.Common.{lit<, refl};
 
 use crate::bytes::{bytes_at, put_bytes, put_u16};
 use crate::slot::{BadSlot, Slot, USED};
+use crate::slot_places::{FIRST_OBJECT_PAGE, OBJECT_BYTES};
 use arrayvec::ArrayVec;
 use byteorder::{BigEndian, ByteOrder};
 use card_types::Object;
 
 impl Slot for Object {
-    ghost FIRST = { 37 };
+    ghost FIRST = { FIRST_OBJECT_PAGE };
 
-    const FIRST: u16 = 37;
+    const FIRST: u16 = FIRST_OBJECT_PAGE;
 
-    ghost SIZE = { 128 };
+    ghost SIZE = { OBJECT_BYTES };
 
-    const SIZE: usize = 128;
+    const SIZE: usize = OBJECT_BYTES;
 
     ghost is_in = { IsObjectIn };
 
@@ -45,5 +47,5 @@ impl Slot for Object {
         put_bytes(slot, 4, &self.value);
     }
 
-    ghost sizes = { (lit< tt, refl, lit≤ tt) };
+    ghost sizes = { (lit< tt, refl, lit< tt) };
 }

@@ -1,6 +1,7 @@
 //! What stands in slots of store pages.
 
 ghost use Rattle.std.specs.Prelude.{◌≡◌, ◌*◌, ◌/◌, ◌<◌, ◌≤◌, ℕ, List, Option, length, slice_index, IfOk, OnErr, IfSome};
+ghost use Rattle.page_journal.specs.Pages.{IsStorePage};
 ghost use Rattle.rec_store.specs.Slot.{SlotHolds};
 
 /// The first byte of a free slot and of a used one.
@@ -49,7 +50,7 @@ pub trait Slot: Drop {
         ensures { is_in slot.new self.now };
 
     // Whole slots fill a page.
-    ghost sizes: { (0 < SIZE) × (256 / SIZE * SIZE ≡ 256) × (FIRST ≤ 37) };
+    ghost sizes: { (0 < SIZE) × (256 / SIZE * SIZE ≡ 256) × IsStorePage FIRST };
 }
 
 /// What a slot holds.

@@ -2,30 +2,13 @@
 use Rattle.std.proofs.Common.{◌≡◌, ℕ, ◌/◌, ◌<◌, List, [], ◌∷◌, ◌++◌, sym, subst, arith}
 use Rattle.std.specs.Prelude.{Contains}
 use Rattle.std.proofs.lemmas.List.Elements.{Contains-append_left, Contains-append_right}
-use Rattle.std.proofs.lemmas.List.FromFn.{get_or-range_with_len}
 use Rattle.card_types.specs.declared.limits.TheConstants.{ENTRIES, KEYS, OBJECTS}
 use Rattle.card_types.proofs.Members.{contains_first}
-use Rattle.rec_store.specs.Keeper.{key_pages}
-use Rattle.rec_store.specs.Places.{entry_page, key_page, object_page}
+use Rattle.rec_store.specs.Places.{entry_page, entry_pages, key_page, key_pages, object_page, object_pages}
 use Rattle.rec_store.specs.Room.{HasFrame, HasFramesFor, with_staged}
 use Rattle.rec_store.proofs.Rooms.{room_stays}
-use Rattle.registry.specs.Pages.{KeepsRoom, entry_pages, object_pages, owner_pages}
-
--- the pages of slots are among them
-pub among_entry_pages : (slot : ℕ) → slot < ENTRIES → Contains entry_pages (entry_page slot)
-among_entry_pages slot low =
-    let within : slot / 4 < 8 = omega (arith, low) in
-    (slot / 4, within, get_or-range_with_len 1 8 (slot / 4) (entry_page slot) within)
-
-among_key_pages : (slot : ℕ) → slot < KEYS → Contains key_pages (key_page slot)
-among_key_pages slot low =
-    let within : slot / 4 < 12 = omega (arith, low) in
-    (slot / 4, within, get_or-range_with_len 25 12 (slot / 4) (key_page slot) within)
-
-pub among_object_pages : (slot : ℕ) → slot < OBJECTS → Contains object_pages (object_page slot)
-among_object_pages slot low =
-    let within : slot / 2 < 8 = omega (arith, low) in
-    (slot / 2, within, get_or-range_with_len 37 8 (slot / 2) (object_page slot) within)
+use Rattle.rec_store.proofs.SlotPages.{among_entry_pages, among_key_pages, among_object_pages}
+use Rattle.registry.specs.Pages.{KeepsRoom, owner_pages}
 
 pub entry_of_owner : (slot : ℕ) → slot < ENTRIES → Contains owner_pages (entry_page slot)
 entry_of_owner slot low = Contains-append_left (entry_pages ++ key_pages) object_pages (entry_page slot) (Contains-append_left entry_pages key_pages (entry_page slot) (among_entry_pages slot low))

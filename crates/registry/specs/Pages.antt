@@ -1,19 +1,10 @@
 -- The store pages that one command may change, and the frames for them.
 use Rattle.std.specs.Prelude.{◌≡◌, ◌≢◌, ◌⊎◌, ℕ, List, [], ◌∷◌, ◌++◌, Option, Contains}
-use Rattle.std.specs.List.{range_with_len}
 use Rattle.card_types.specs.Represents.{thing_in}
 use Rattle.card_types.specs.declared.found.Found.{Found}
 use Rattle.card_types.specs.declared.found.Found.TheVariants.{Entry, File}
-use Rattle.rec_store.specs.Keeper.{key_pages}
-use Rattle.rec_store.specs.Places.{entry_page, file_page}
+use Rattle.rec_store.specs.Places.{entry_page, entry_pages, file_page, key_pages, object_pages}
 use Rattle.rec_store.specs.Room.{HasFramesFor}
-
--- the store pages with the slots of entries, and of data objects
-abbrev pub entry_pages : List ℕ
-entry_pages = range_with_len 1 8
-
-abbrev pub object_pages : List ℕ
-object_pages = range_with_len 37 8
 
 -- the pages that change where an entry goes with its keys and data objects
 abbrev pub owner_pages : List ℕ

@@ -9,10 +9,10 @@ pub use Rattle.card_types.specs.SlotChange.{SetsEntry, SetsFile}
 pub use Rattle.card_types.specs.Well.{Well}
 pub use Rattle.domain_tree.specs.Above.{IsTreeOf}
 pub use Rattle.domain_tree.specs.Slots.{IsFreeOfLoops}
-pub use Rattle.rec_store.specs.Places.{entry_page, file_page, key_page, object_page}
+pub use Rattle.rec_store.specs.Places.{entry_page, entry_pages, file_page, key_page, object_page}
 pub use Rattle.rec_store.specs.Room.{HasFramesFor, with_staged}
 pub use Rattle.registry.specs.Adding.{AddsEntry, AddsFile, IsAidTaken, NoneHas, PlaceFails}
-pub use Rattle.registry.specs.Pages.{KeepsRoom, StagesChanged, entry_pages, owner_pages, thing_page, thing_pages}
+pub use Rattle.registry.specs.Pages.{KeepsRoom, StagesChanged, owner_pages, thing_page, thing_pages}
 pub use Rattle.registry.specs.Removing.{IsNoDomain, IsUnloaded, RemovesApplications, RemovesEntry, StagesOwned, entry_file, is_owned, key_owner, object_owner, slot_without}
 pub use Rattle.registry.specs.Setting.{ChangesEntry, Moves}
 pub use Rattle.registry.specs.TableLists.{TableLists, lists_of}

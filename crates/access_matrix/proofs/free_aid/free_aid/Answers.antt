@@ -1,6 +1,6 @@
 use Rattle.std.proofs.Common.{ℕ, ◌<◌, ap, arith, below_more, not, sym, subst, ◌∙◌}
 use Rattle.access_matrix.specs.Commands.{IsFirstFreeAid, numbered_aid}
-use Rattle.access_matrix.proofs.FreeAids.{IsInSlot, first_free, named_none, named_some, never_all}
+use Rattle.access_matrix.proofs.FreeAids.{IsInSlot, first_free, most_things, named_none, named_some, never_all}
 use Rattle.access_matrix.proofs.free_aid.free_aid.Goals as goal
 
 pub returns-then-is_none : goal.returns-then-is_none
@@ -19,7 +19,7 @@ loop-number-preserved c =
 
 pub returns : goal.returns
 returns c page said says =
-    let below : (lower : ℕ) → lower < 48 → IsInSlot c.args.tables.now (numbered_aid lower) = λ lower less. c.loop-number.invariant lower (omega (arith, less, c.loop-number-test.false)) in
+    let below : (lower : ℕ) → lower < most_things → IsInSlot c.args.tables.now (numbered_aid lower) = λ lower less. c.loop-number.invariant lower (omega (arith, less, c.loop-number-test.false)) in
     subst (IsFirstFreeAid said) (sym c.numbered_aid.ensures)
-    (first_free page c.args.tables.now said says 48 below (λ there.
-    never_all c.args.tables.now c.requires.in_order (below_more (λ lower. IsInSlot c.args.tables.now (numbered_aid lower)) 48 below there)))
+    (first_free page c.args.tables.now said says most_things below (λ there.
+    never_all c.args.tables.now c.requires.in_order (below_more (λ lower. IsInSlot c.args.tables.now (numbered_aid lower)) most_things below there)))

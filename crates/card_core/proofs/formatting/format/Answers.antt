@@ -1,4 +1,4 @@
-use Rattle.std.proofs.Common.{◌≡◌, ℕ, zero, suc, ◌<◌, ◌^◌, List, [], ◌∷◌, ◌++◌, length, Option, None, Some, refl, ap, arith}
+use Rattle.std.proofs.Common.{◌≡◌, ℕ, zero, suc, ◌-◌, ◌<◌, ◌^◌, List, [], ◌∷◌, ◌++◌, length, Option, None, Some, refl, ap, arith}
 use Rattle.std.specs.Global.{Vec}
 use Rattle.std.specs.List.{IsDistinct}
 use Rattle.std.specs.Prelude.{replicate}
@@ -8,6 +8,7 @@ use Rattle.card_core.specs.Prelude.{HasFirst, IsCard, IsFactory, IsFactoryKey, I
 use Rattle.card_types.proofs.FactoryRegistry.{factory_layout, factory_says}
 use Rattle.card_types.proofs.FactoryWell.{factory_well}
 use Rattle.card_types.specs.declared.card_life.CardLife.TheVariants.{OpReady}
+use Rattle.card_types.specs.declared.limits.TheConstants.{ENTRIES, FILES, KEYS, OBJECTS}
 use Rattle.card_types.specs.declared.tables.Entry.{Entry}
 use Rattle.card_types.specs.declared.tables.KeyRec.{KeyRec}
 use Rattle.card_types.specs.declared.tables.LoadFile.{LoadFile}
@@ -33,27 +34,27 @@ module _ (domain : Entry) (file : LoadFile) (first second third : KeyRec) where
   abbrev tables : Tables
   tables = record {
     life = OpReady;
-    entries = vec_of (Some domain ∷ replicate 31 None) 32 refl (omega arith);
-    files = vec_of (Some file ∷ replicate 15 None) 16 refl (omega arith);
-    keys = vec_of (Some first ∷ Some second ∷ Some third ∷ replicate 45 None) 48 refl (omega arith);
-    objects = vec_of (replicate 16 None) 16 refl (omega arith);
+    entries = vec_of (Some domain ∷ replicate (ENTRIES - 1) None) ENTRIES refl (omega arith);
+    files = vec_of (Some file ∷ replicate (FILES - 1) None) FILES refl (omega arith);
+    keys = vec_of (Some first ∷ Some second ∷ Some third ∷ replicate (KEYS - 3) None) KEYS refl (omega arith);
+    objects = vec_of (replicate OBJECTS None) OBJECTS refl (omega arith);
   }
 
   in_first : HasFirst tables OpReady (Some domain ∷ []) (Some file ∷ []) (Some first ∷ Some second ∷ Some third ∷ []) []
   in_first = record {
     slots = record { entries = refl; files = refl; keys = refl; objects = refl };
     life = refl;
-    entries = behind (Some domain ∷ []) 31;
-    files = behind (Some file ∷ []) 15;
-    keys = behind (Some first ∷ Some second ∷ Some third ∷ []) 45;
-    objects = behind [] 16;
+    entries = behind (Some domain ∷ []) (ENTRIES - 1);
+    files = behind (Some file ∷ []) (FILES - 1);
+    keys = behind (Some first ∷ Some second ∷ Some third ∷ []) (KEYS - 3);
+    objects = behind [] OBJECTS;
   }
 
   is_factory : domain ≡ factory_entry → file ≡ factory_file → IsFactoryKey 1 first → IsFactoryKey 2 second → IsFactoryKey 3 third → IsFactory tables
   is_factory is_domain is_file is_first is_second is_third = record {
     life = refl;
-    entries = ap (λ (entry : Entry). Some entry ∷ replicate 31 None) is_domain;
-    files = ap (λ (one : LoadFile). Some one ∷ replicate 15 None) is_file;
+    entries = ap (λ (entry : Entry). Some entry ∷ replicate (ENTRIES - 1) None) is_domain;
+    files = ap (λ (one : LoadFile). Some one ∷ replicate (FILES - 1) None) is_file;
     first = first;
     second = second;
     third = third;

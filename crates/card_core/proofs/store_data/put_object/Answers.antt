@@ -1,7 +1,7 @@
 use Rattle.std.proofs.Common.{sym, subst}
 use Rattle.rec_store.proofs.Rooms.{room_stays}
 use Rattle.card_core.specs.Prelude.{HasFramesFor, object_page, object_pages}
-use Rattle.registry.proofs.Frames.{among_object_pages}
+use Rattle.rec_store.proofs.SlotPages.{among_object_pages}
 use Rattle.card_core.proofs.store_data.put_object.Goals as goal
 
 pub set_object-requires-clause-frame : goal.set_object-requires-clause-frame

@@ -26,6 +26,7 @@ use Rattle.rec_store.proofs.OneRegistry.{one_keys}
 use Rattle.rec_store.proofs.OneThing.{one_layout}
 use Rattle.rec_store.proofs.Readings.{reads_on}
 use Rattle.rec_store.proofs.mount.read_tables.Goals as goal
+use Rattle.rec_store.specs.declared.slot_places.TheConstants.{ENTRY_BYTES, FILE_BYTES, FIRST_ENTRY_PAGE, FIRST_FILE_PAGE, FIRST_KEY_PAGE, FIRST_OBJECT_PAGE, KEY_BYTES, OBJECT_BYTES}
 
 abbrev NoTables : (ℕ → List ℕ) → Type 0
 NoTables store = (layout : Layout) (t : Tables) → HoldsTables layout store t → ⊥
@@ -55,22 +56,22 @@ are_held holds first size count all old now slots same is are = subst (λ pages.
 
 pub returns-in_err-read_slots-clause-err : goal.returns-in_err-read_slots-clause-err
 returns-in_err-read_slots-clause-err g c =
-    refused g.F.Flash c.args.store.now c.read_store.new.store (g.F.Flash.faults c.read_slots.new.store.flash) c.read_store.ensures.read HoldsEntry 1 64 (length c.deref_mut.result.now) ENTRIES (λ t. t.entries.items)
+    refused g.F.Flash c.args.store.now c.read_store.new.store (g.F.Flash.faults c.read_slots.new.store.flash) c.read_store.ensures.read HoldsEntry FIRST_ENTRY_PAGE ENTRY_BYTES (length c.deref_mut.result.now) ENTRIES (λ t. t.entries.items)
     (ap length c.deref_mut.ensures.value ∙ c.requires.slots.entries) (λ layout t held_all. held_all.entries) c.from_residual-in_err-read_slots.result c.in_err-read_slots.field-0.0 c.from_residual-in_err-read_slots.ensures.1 c.in_err-read_slots.ensures.err
 
 pub returns-in_err-read_slots-2-clause-err : goal.returns-in_err-read_slots-2-clause-err
 returns-in_err-read_slots-2-clause-err g c =
-    refused g.F.Flash c.args.store.now c.read_slots.new.store (g.F.Flash.faults c.read_slots-2.new.store.flash) (reads_on g.F.Flash c.args.store.now c.read_store.new.store c.read_slots.new.store c.read_store.ensures.read c.in_ok-read_slots.ensures.read) HoldsFile 9 256 (length c.deref_mut-2.result.now) FILES (λ t. t.files.items)
+    refused g.F.Flash c.args.store.now c.read_slots.new.store (g.F.Flash.faults c.read_slots-2.new.store.flash) (reads_on g.F.Flash c.args.store.now c.read_store.new.store c.read_slots.new.store c.read_store.ensures.read c.in_ok-read_slots.ensures.read) HoldsFile FIRST_FILE_PAGE FILE_BYTES (length c.deref_mut-2.result.now) FILES (λ t. t.files.items)
     (ap length c.deref_mut-2.ensures.value ∙ c.requires.slots.files) (λ layout t held_all. held_all.files) c.from_residual-in_err-read_slots-2.result c.in_err-read_slots-2.field-0.0 c.from_residual-in_err-read_slots-2.ensures.1 c.in_err-read_slots-2.ensures.err
 
 pub returns-in_err-read_slots-3-clause-err : goal.returns-in_err-read_slots-3-clause-err
 returns-in_err-read_slots-3-clause-err g c =
-    refused g.F.Flash c.args.store.now c.read_slots-2.new.store (g.F.Flash.faults c.read_slots-3.new.store.flash) (reads_on g.F.Flash c.args.store.now c.read_slots.new.store c.read_slots-2.new.store (reads_on g.F.Flash c.args.store.now c.read_store.new.store c.read_slots.new.store c.read_store.ensures.read c.in_ok-read_slots.ensures.read) c.in_ok-read_slots-2.ensures.read) HoldsKey 25 64 (length c.deref_mut-3.result.now) KEYS (λ t. t.keys.items)
+    refused g.F.Flash c.args.store.now c.read_slots-2.new.store (g.F.Flash.faults c.read_slots-3.new.store.flash) (reads_on g.F.Flash c.args.store.now c.read_slots.new.store c.read_slots-2.new.store (reads_on g.F.Flash c.args.store.now c.read_store.new.store c.read_slots.new.store c.read_store.ensures.read c.in_ok-read_slots.ensures.read) c.in_ok-read_slots-2.ensures.read) HoldsKey FIRST_KEY_PAGE KEY_BYTES (length c.deref_mut-3.result.now) KEYS (λ t. t.keys.items)
     (ap length c.deref_mut-3.ensures.value ∙ c.requires.slots.keys) (λ layout t held_all. held_all.keys) c.from_residual-in_err-read_slots-3.result c.in_err-read_slots-3.field-0.0 c.from_residual-in_err-read_slots-3.ensures.1 c.in_err-read_slots-3.ensures.err
 
 pub returns-in_err-read_slots-4-clause-err : goal.returns-in_err-read_slots-4-clause-err
 returns-in_err-read_slots-4-clause-err g c =
-    refused g.F.Flash c.args.store.now c.read_slots-3.new.store (g.F.Flash.faults c.read_slots-4.new.store.flash) (reads_on g.F.Flash c.args.store.now c.read_slots-2.new.store c.read_slots-3.new.store (reads_on g.F.Flash c.args.store.now c.read_slots.new.store c.read_slots-2.new.store (reads_on g.F.Flash c.args.store.now c.read_store.new.store c.read_slots.new.store c.read_store.ensures.read c.in_ok-read_slots.ensures.read) c.in_ok-read_slots-2.ensures.read) c.in_ok-read_slots-3.ensures.read) HoldsObject 37 128 (length c.deref_mut-4.result.now) OBJECTS (λ t. t.objects.items)
+    refused g.F.Flash c.args.store.now c.read_slots-3.new.store (g.F.Flash.faults c.read_slots-4.new.store.flash) (reads_on g.F.Flash c.args.store.now c.read_slots-2.new.store c.read_slots-3.new.store (reads_on g.F.Flash c.args.store.now c.read_slots.new.store c.read_slots-2.new.store (reads_on g.F.Flash c.args.store.now c.read_store.new.store c.read_slots.new.store c.read_store.ensures.read c.in_ok-read_slots.ensures.read) c.in_ok-read_slots-2.ensures.read) c.in_ok-read_slots-3.ensures.read) HoldsObject FIRST_OBJECT_PAGE OBJECT_BYTES (length c.deref_mut-4.result.now) OBJECTS (λ t. t.objects.items)
     (ap length c.deref_mut-4.ensures.value ∙ c.requires.slots.objects) (λ layout t held_all. held_all.objects) c.from_residual-in_err-read_slots-4.result c.in_err-read_slots-4.field-0.0 c.from_residual-in_err-read_slots-4.ensures.1 c.in_err-read_slots-4.ensures.err
 
 pub returns-clause-held : goal.returns-clause-held
@@ -90,10 +91,10 @@ returns-clause-held g c told =
     record {
       slots = record { entries = ap length entries_are ∙ entries_long ∙ c.requires.slots.entries; files = ap length files_are ∙ files_long ∙ c.requires.slots.files; keys = ap length keys_are ∙ keys_long ∙ c.requires.slots.keys; objects = ap length objects_are ∙ objects_long ∙ c.requires.slots.objects };
       superblock = subst (λ bytes. IsSuperblock bytes c.in_ok-layout.layout c.in_ok-layout.life) (sym (c.in_ok-read_store.ensures.page told)) c.in_ok-layout.ensures.ok;
-      entries = subst (AreHeld HoldsEntry (slot_from (store_page first) 1 64) ENTRIES) (sym entries_are) (are_held HoldsEntry 1 64 (length c.read_slots.new.slots) ENTRIES first (F.pages c.read_store.new.store.flash) c.read_slots.new.slots (c.read_store.ensures.read.seen told) (entries_long ∙ c.requires.slots.entries) (c.in_ok-read_slots.ensures.ok told));
-      files = subst (AreHeld HoldsFile (slot_from (store_page first) 9 256) FILES) (sym files_are) (are_held HoldsFile 9 256 (length c.read_slots-2.new.slots) FILES first (F.pages c.read_slots.new.store.flash) c.read_slots-2.new.slots (c.in_ok-read_slots.ensures.read.seen told ∙ c.read_store.ensures.read.seen told) (files_long ∙ c.requires.slots.files) (c.in_ok-read_slots-2.ensures.ok told));
-      keys = subst (AreHeld HoldsKey (slot_from (store_page first) 25 64) KEYS) (sym keys_are) (are_held HoldsKey 25 64 (length c.read_slots-3.new.slots) KEYS first (F.pages c.read_slots-2.new.store.flash) c.read_slots-3.new.slots (c.in_ok-read_slots-2.ensures.read.seen told ∙ c.in_ok-read_slots.ensures.read.seen told ∙ c.read_store.ensures.read.seen told) (keys_long ∙ c.requires.slots.keys) (c.in_ok-read_slots-3.ensures.ok told));
-      objects = subst (AreHeld HoldsObject (slot_from (store_page first) 37 128) OBJECTS) (sym objects_are) (are_held HoldsObject 37 128 (length c.read_slots-4.new.slots) OBJECTS first (F.pages c.read_slots-3.new.store.flash) c.read_slots-4.new.slots (c.in_ok-read_slots-3.ensures.read.seen told ∙ c.in_ok-read_slots-2.ensures.read.seen told ∙ c.in_ok-read_slots.ensures.read.seen told ∙ c.read_store.ensures.read.seen told) (objects_long ∙ c.requires.slots.objects) (c.in_ok-read_slots-4.ensures.ok told));
+      entries = subst (AreHeld HoldsEntry (slot_from (store_page first) FIRST_ENTRY_PAGE ENTRY_BYTES) ENTRIES) (sym entries_are) (are_held HoldsEntry FIRST_ENTRY_PAGE ENTRY_BYTES (length c.read_slots.new.slots) ENTRIES first (F.pages c.read_store.new.store.flash) c.read_slots.new.slots (c.read_store.ensures.read.seen told) (entries_long ∙ c.requires.slots.entries) (c.in_ok-read_slots.ensures.ok told));
+      files = subst (AreHeld HoldsFile (slot_from (store_page first) FIRST_FILE_PAGE FILE_BYTES) FILES) (sym files_are) (are_held HoldsFile FIRST_FILE_PAGE FILE_BYTES (length c.read_slots-2.new.slots) FILES first (F.pages c.read_slots.new.store.flash) c.read_slots-2.new.slots (c.in_ok-read_slots.ensures.read.seen told ∙ c.read_store.ensures.read.seen told) (files_long ∙ c.requires.slots.files) (c.in_ok-read_slots-2.ensures.ok told));
+      keys = subst (AreHeld HoldsKey (slot_from (store_page first) FIRST_KEY_PAGE KEY_BYTES) KEYS) (sym keys_are) (are_held HoldsKey FIRST_KEY_PAGE KEY_BYTES (length c.read_slots-3.new.slots) KEYS first (F.pages c.read_slots-2.new.store.flash) c.read_slots-3.new.slots (c.in_ok-read_slots-2.ensures.read.seen told ∙ c.in_ok-read_slots.ensures.read.seen told ∙ c.read_store.ensures.read.seen told) (keys_long ∙ c.requires.slots.keys) (c.in_ok-read_slots-3.ensures.ok told));
+      objects = subst (AreHeld HoldsObject (slot_from (store_page first) FIRST_OBJECT_PAGE OBJECT_BYTES) OBJECTS) (sym objects_are) (are_held HoldsObject FIRST_OBJECT_PAGE OBJECT_BYTES (length c.read_slots-4.new.slots) OBJECTS first (F.pages c.read_slots-3.new.store.flash) c.read_slots-4.new.slots (c.in_ok-read_slots-3.ensures.read.seen told ∙ c.in_ok-read_slots-2.ensures.read.seen told ∙ c.in_ok-read_slots.ensures.read.seen told ∙ c.read_store.ensures.read.seen told) (objects_long ∙ c.requires.slots.objects) (c.in_ok-read_slots-4.ensures.ok told));
       fits = subst (FitsLayout c.in_ok-layout.layout) c.deref.ensures.value (let it = c.if-not-fits_layout.false in c.fits_layout.ensures.0 (cc it));
     }
 
@@ -110,7 +111,7 @@ returns-then-not-fits_layout-clause-err g c told layout t held_all =
     let slots = c.read_slots-3.new.slots in
     let long : length slots ≡ length c.args.tables.now.keys.items = c.read_slots-3.auto.slots ∙ ap length c.deref_mut-3.ensures.value in
     let seen = c.in_ok-read_slots-2.ensures.read.seen told ∙ c.in_ok-read_slots.ensures.read.seen told ∙ c.read_store.ensures.read.seen told in
-    let are = are_held HoldsKey 25 64 (length slots) KEYS first (g.F.Flash.pages c.read_slots-2.new.store.flash) slots seen (long ∙ c.requires.slots.keys) (c.in_ok-read_slots-3.ensures.ok told) in
+    let are = are_held HoldsKey FIRST_KEY_PAGE KEY_BYTES (length slots) KEYS first (g.F.Flash.pages c.read_slots-2.new.store.flash) slots seen (long ∙ c.requires.slots.keys) (c.in_ok-read_slots-3.ensures.ok told) in
     let keys : t.keys.items ≡ slots = one_keys (store_page first) t.keys.items slots held_all.slots.keys (long ∙ c.requires.slots.keys) held_all.keys are in
     let here : slots ≡ c.deref.result.now = sym (filled c.args.tables.now.keys.len c.args.tables.now.keys.items slots c.args.tables.now.keys.ok.0 long) ∙ sym c.deref.ensures.value in
     let superblock = subst (λ bytes. IsSuperblock bytes c.in_ok-layout.layout c.in_ok-layout.life) (sym (c.in_ok-read_store.ensures.page told)) c.in_ok-layout.ensures.ok in

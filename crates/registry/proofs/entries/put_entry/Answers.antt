@@ -1,6 +1,7 @@
 use Rattle.rec_store.specs.Places.{entry_page}
-use Rattle.registry.specs.Pages.{entry_pages}
-use Rattle.registry.proofs.Frames.{among_entry_pages, frame_of, keeps_staged}
+use Rattle.rec_store.specs.Places.{entry_pages}
+use Rattle.rec_store.proofs.SlotPages.{among_entry_pages}
+use Rattle.registry.proofs.Frames.{frame_of, keeps_staged}
 use Rattle.registry.proofs.entries.put_entry.Goals as goal
 
 pub set_entry-requires-clause-frame : goal.set_entry-requires-clause-frame

@@ -6,7 +6,7 @@ use Rattle.card_types.specs.declared.tables.Entry.{Entry}
 use Rattle.card_types.specs.declared.tables.Tables.{Tables}
 use Rattle.domain_tree.specs.Slots.{IsFreeOfLoops}
 use Rattle.rec_store.specs.Places.{entry_page}
-use Rattle.registry.specs.Pages.{entry_pages}
+use Rattle.rec_store.specs.Places.{entry_pages}
 use Rattle.registry.specs.Tree.{IsSlotInTree, LocksTree}
 use Rattle.registry.proofs.Frames.{keeps_on, still_room}
 use Rattle.registry.proofs.Locked.{says_locked}

@@ -1,7 +1,8 @@
 use Rattle.std.proofs.Common.{◌≡◌, ◌<◌, length}
 use Rattle.card_types.specs.declared.limits.TheConstants.{ENTRIES}
 use Rattle.rec_store.specs.Places.{entry_page}
-use Rattle.registry.specs.Pages.{KeepsRoom, entry_pages}
+use Rattle.rec_store.specs.Places.{entry_pages}
+use Rattle.registry.specs.Pages.{KeepsRoom}
 use Rattle.registry.specs.Tree.{SameButEntries}
 use Rattle.registry.proofs.Marking.{IsMarked}
 use Rattle.registry.proofs.Staging.{IsStaged}

@@ -8,11 +8,12 @@ use Rattle.frame_pool.specs.Staged.{staged_at, with_bytes_at, AreDistinct}
 use Rattle.frame_pool.specs.Entries.{entries, AreLinked}
 use Rattle.frame_pool.proofs.Places.{NoneBefore, NoneHas, none_staged, none_with, last_get, last_with, found_staged, found_with, distinct_push, entries_push, length_entries, take_push, linked_put}
 use Rattle.frame_pool.proofs.pool.FramePool.place.Goals as goal
+use Rattle.frame_pool.specs.declared.pool.TheConstants.{FRAMES}
 
 at_end : (l m : List (ℕ × Page)) (n k : ℕ) (w : Page) → l ≡ m → n ≡ k → with_bytes_at l n w ≡ with_bytes_at m k w
 at_end l m n k w same place = ap (λ (x : List (ℕ × Page)). with_bytes_at x n w) same ∙ ap (λ (x : ℕ). with_bytes_at m x w) place
 
-some_left : (o : Option Page) (n : ℕ) → IsSome o ⊎ (n < 30) → o ≡ None → n < 30
+some_left : (o : Option Page) (n : ℕ) → IsSome o ⊎ (n < FRAMES) → o ≡ None → n < FRAMES
 some_left None n (inl some) none = absurd (cc some)
 some_left (Some x) n (inl some) none = absurd (cc none)
 some_left o n (inr lt) none = lt
@@ -44,7 +45,7 @@ invariant_of-self c =
     let len = c.self.inside.len in
     let i = c.self.invariant in
     let none = none_staged c.args.self.now c.args.page (subst (λ l. NoneHas l c.args.page) c.self.view_is c.in-None.ensures.none) in
-    let room : len < 30 = omega (arith, some_left (staged_at c.args.self.now c.args.page) (length c.args.self.now) c.requires none, ap length c.self.view_is, length_entries (take len slots.items), length-take len slots.items, slots.ok.0, i.0, i.2) in
+    let room : len < FRAMES = omega (arith, some_left (staged_at c.args.self.now c.args.page) (length c.args.self.now) c.requires none, ap length c.self.view_is, length_entries (take len slots.items), length-take len slots.items, slots.ok.0, i.0, i.2) in
     let within : len < length slots.items = omega (arith, room, slots.ok.0, i.0) in
     let f = blank c.args.page len in
     let put = c.put.ensures in
@@ -79,7 +80,7 @@ returns-in-None-clause-found c =
     let len = c.self.inside.len in
     let i = c.self.invariant in
     let none = none_staged c.args.self.now c.args.page (subst (λ l. NoneHas l c.args.page) c.self.view_is c.in-None.ensures.none) in
-    let room : len < 30 = omega (arith, some_left (staged_at c.args.self.now c.args.page) (length c.args.self.now) c.requires none, ap length c.self.view_is, length_entries (take len slots.items), length-take len slots.items, slots.ok.0, i.0, i.2) in
+    let room : len < FRAMES = omega (arith, some_left (staged_at c.args.self.now c.args.page) (length c.args.self.now) c.requires none, ap length c.self.view_is, length_entries (take len slots.items), length-take len slots.items, slots.ok.0, i.0, i.2) in
     let within : len < length slots.items = omega (arith, room, slots.ok.0, i.0) in
     let place : len ≡ length (entries (take len slots.items)) = omega (arith, length_entries (take len slots.items), length-take len slots.items, within) in
     ap (λ l. slice_get l len) (pushed slots.items c.put.new.self.items len (blank c.args.page len) within c.put.ensures.items) ∙ ap (slice_get (entries (take len slots.items) ++ (c.args.page, uniform_page 0) ∷ [])) place ∙ last_get (entries (take len slots.items)) (c.args.page, uniform_page 0)
@@ -92,7 +93,7 @@ returns-in-None-clause-bytes c w =
     let i = c.self.invariant in
     let has = subst (λ l. NoneHas l c.args.page) c.self.view_is c.in-None.ensures.none in
     let none = none_staged c.args.self.now c.args.page has in
-    let room : len < 30 = omega (arith, some_left (staged_at c.args.self.now c.args.page) (length c.args.self.now) c.requires none, ap length c.self.view_is, length_entries (take len slots.items), length-take len slots.items, slots.ok.0, i.0, i.2) in
+    let room : len < FRAMES = omega (arith, some_left (staged_at c.args.self.now c.args.page) (length c.args.self.now) c.requires none, ap length c.self.view_is, length_entries (take len slots.items), length-take len slots.items, slots.ok.0, i.0, i.2) in
     let within : len < length slots.items = omega (arith, room, slots.ok.0, i.0) in
     let place : len ≡ length (entries (take len slots.items)) = omega (arith, length_entries (take len slots.items), length-take len slots.items, within) in
     at_end _ (entries (take len slots.items) ++ (c.args.page, uniform_page 0) ∷ []) _ (length (entries (take len slots.items))) w (pushed slots.items c.put.new.self.items len (blank c.args.page len) within c.put.ensures.items) place

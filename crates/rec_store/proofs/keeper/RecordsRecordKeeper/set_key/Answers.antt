@@ -1,8 +1,7 @@
 use Rattle.std.proofs.Common.{sym, subst}
-use Rattle.rec_store.specs.Keeper.{key_pages}
-use Rattle.rec_store.specs.Places.{key_page}
+use Rattle.rec_store.specs.Places.{key_page, key_pages}
 use Rattle.rec_store.specs.Room.{HasFramesFor}
-use Rattle.rec_store.proofs.Keeping.{among_key_pages}
+use Rattle.rec_store.proofs.SlotPages.{among_key_pages}
 use Rattle.rec_store.proofs.Rooms.{room_stays}
 use Rattle.rec_store.proofs.keeper.RecordsRecordKeeper.set_key.Goals as goal
 
