@@ -1,5 +1,5 @@
 -- What a host sends in the session of a channel passes, and is judged as the plain command.
-use Rattle.std.proofs.Common.{◌≡◌, ◌≢◌, ℕ, ◌+◌, ◌/◌, ◌<◌, ◌≤◌, length, true, Option, None, Some, refl, sym, ap, subst, ◌∙◌, arith}
+use Rattle.std.proofs.Common.{◌≡◌, ◌≢◌, ℕ, ◌≤◌, length, true, Option, None, Some, refl, sym, ap, subst, ◌∙◌}
 use Rattle.std.specs.Prelude.{Contains, MatchOption, not, if◌then◌else◌, ◌==◌}
 use Rattle.apdu_core.specs.Apdu.{Apdu}
 use Rattle.apdu_core.specs.ClassBytes.{IsBasicChannel, channel_of, on_channel}

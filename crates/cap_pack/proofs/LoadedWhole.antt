@@ -1,5 +1,5 @@
 -- A card that may take an Executable Load File takes it whole.
-use Rattle.std.proofs.Common.{◌≡◌, ◌≢◌, ℕ, ◌+◌, List, Bool, true, false, Option, None, Some, refl, sym, ap, subst, ◌∙◌, eq-eqb, arith}
+use Rattle.std.proofs.Common.{◌≡◌, ◌≢◌, ℕ, List, Bool, true, false, Option, None, Some, refl, sym, ap, subst, ◌∙◌, eq-eqb, arith}
 use Rattle.std.specs.Prelude.{MatchOption, ◌&&◌}
 use Rattle.std.proofs.lemmas.Bool.{false≢true, true≢false}
 use Rattle.std.proofs.lemmas.List.Elements.{All-contains}

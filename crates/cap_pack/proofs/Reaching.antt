@@ -1,5 +1,5 @@
 -- Where commands lead that a host sends in the session of a channel.
-use Rattle.std.proofs.Common.{◌≡◌, ◌≢◌, ℕ, ◌+◌, List, [], ◌∷◌, None, Some, refl, sym, subst, inr}
+use Rattle.std.proofs.Common.{◌≡◌, ◌≢◌, ℕ, List, [], ◌∷◌, None, Some, refl, sym, subst, inr}
 use Rattle.std.specs.Prelude.{MatchOption, true}
 use Rattle.apdu_core.specs.Apdu.{Apdu}
 use Rattle.apdu_core.specs.ClassBytes.{channel_of, on_channel}
