@@ -23,6 +23,7 @@ CRATES = pathlib.Path(__file__).resolve().parent.parent / "crates"
 WITHOUT_PROMISES = {
     "cases": "plays cases: what it does shows in its text alone, which is compared",
     "vectors": "tests",
+    "card_tests": "tests",
     "cipher_bench": "a program for timing",
 }
 

@@ -5,7 +5,7 @@ use Rattle.flash_core.specs.Memory.{medium}
 use Rattle.page_journal.specs.Journal.{stored_page}
 use Rattle.rec_store.specs.Reopens.{load_page}
 use Rattle.rec_store.proofs.Reopening.{has_pages}
-use Rattle.vectors.proofs.registry_changes.kept.Goals as goal
+use Rattle.card_tests.proofs.registry_changes.kept.Goals as goal
 
 pub commit-requires-clause-card : goal.commit-requires-clause-card
 commit-requires-clause-card c told =

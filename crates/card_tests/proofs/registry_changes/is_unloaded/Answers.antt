@@ -4,8 +4,8 @@ use Rattle.card_types.specs.Search.{NoneFits}
 use Rattle.card_types.specs.Represents.{thing_in}
 use Rattle.card_types.specs.declared.tables.Entry.{Entry}
 use Rattle.card_types.specs.declared.tables.Tables.{Tables}
-use Rattle.vectors.proofs.Found.{where_none}
-use Rattle.vectors.proofs.registry_changes.is_unloaded.Goals as goal
+use Rattle.card_tests.proofs.Found.{where_none}
+use Rattle.card_tests.proofs.registry_changes.is_unloaded.Goals as goal
 
 pub returns : goal.returns
 returns c none other entry at same =

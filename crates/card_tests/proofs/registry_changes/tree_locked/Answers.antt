@@ -1,6 +1,6 @@
 use Rattle.card_types.specs.Represents.{IsInOrder}
 use Rattle.domain_tree.proofs.AboveNamed.{free_of_loops}
-use Rattle.vectors.proofs.registry_changes.tree_locked.Goals as goal
+use Rattle.card_tests.proofs.registry_changes.tree_locked.Goals as goal
 
 pub lock_tree-requires-clause-no_loops : goal.lock_tree-requires-clause-no_loops
 lock_tree-requires-clause-no_loops c =

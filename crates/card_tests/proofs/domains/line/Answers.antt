@@ -2,7 +2,7 @@ use Rattle.std.proofs.Common.{◌≡◌, ℕ, zero, suc, [], ◌∷◌, None, So
 use Rattle.card_types.specs.Represents.{thing_in}
 use Rattle.card_types.specs.declared.tables.Entry.{Entry}
 use Rattle.domain_tree.specs.Slots.{IsFreeOfLoops}
-use Rattle.vectors.proofs.domains.line.Goals as goal
+use Rattle.card_tests.proofs.domains.line.Goals as goal
 
 none_held : {T : Type 0} (count slot : ℕ) (thing : T) → thing_in (replicate count None) slot ≡ Some thing → ⊥
 none_held zero slot thing at = cc

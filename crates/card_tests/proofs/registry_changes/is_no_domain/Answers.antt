@@ -5,8 +5,8 @@ use Rattle.card_types.specs.Represents.{thing_in}
 use Rattle.card_types.specs.declared.tables.Entry.{Entry}
 use Rattle.card_types.specs.declared.tables.LoadFile.{LoadFile}
 use Rattle.card_types.specs.declared.tables.Tables.{Tables}
-use Rattle.vectors.proofs.Found.{where_none}
-use Rattle.vectors.proofs.registry_changes.is_no_domain.Goals as goal
+use Rattle.card_tests.proofs.Found.{where_none}
+use Rattle.card_tests.proofs.registry_changes.is_no_domain.Goals as goal
 
 pub returns-then-is_none : goal.returns-then-is_none
 returns-then-is_none c none =
