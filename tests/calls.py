@@ -22,6 +22,7 @@ CRATES = pathlib.Path(__file__).resolve().parent.parent / "crates"
 # Crates whose functions promise no more than each function does: to do nothing undefined, and to return.
 WITHOUT_PROMISES = {
     "cases": "plays cases: what it does shows in its text alone, which is compared",
+    "case_cards": "the cards that cases plays on: each case shows whether they are laid out as it says",
     "vectors": "tests",
     "card_tests": "tests",
     "cipher_bench": "a program for timing",

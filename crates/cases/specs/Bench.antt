@@ -2,8 +2,8 @@
 use Rattle.std.specs.Prelude.{◌≡◌, ℕ, ◌*◌, ◌-◌, ◌^◌, List, [], None, replicate, take}
 use Rattle.flash_core.specs.Memory.{medium}
 use Rattle.flash_core.specs.declared.page.TheConstants.{PAGES}
-use Rattle.cases.specs.Image.{bytes_of_pages}
-use Rattle.cases.specs.Layout.{Laid, Lays, nothing_in}
+use Rattle.case_cards.specs.Image.{bytes_of_pages}
+use Rattle.case_cards.specs.Layout.{Laid, Lays, nothing_in}
 use Rattle.cases.specs.declared.bench.Bench.{Bench}
 use Rattle.cases.specs.declared.bench.Power.{Power}
 use Rattle.cases.specs.declared.bench.Power.TheVariants as power

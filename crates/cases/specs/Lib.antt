@@ -1,7 +1,2 @@
-pub mod Image
-pub mod Things
-pub mod Made
-pub mod Slots
-pub mod Layout
 pub mod Bench
 pub mod Why

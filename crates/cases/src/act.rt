@@ -2,10 +2,9 @@
 
 ghost use Rattle.std.specs.Prelude.{◌≡◌, [], true};
 
-use crate::case_error::CaseError;
-use crate::change::change;
 use crate::script::Player;
 use card_check::is_card;
+use case_cards::{CaseError, change};
 use flash_core::Flash;
 use rec_store::Records;
 use std::alloc::Global;

@@ -1,6 +1,6 @@
 //! The forms of a line of the language of cases. docs/TESTS.md lists them.
 
-use crate::words::number;
+use case_cards::number;
 use script_tool::spelled_number;
 use script_tool::words::cut;
 

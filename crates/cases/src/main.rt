@@ -6,23 +6,16 @@
 
 mod act;
 mod bench;
-mod case_error;
-mod change;
 mod counted;
 mod device;
 mod fault_plan;
-mod image;
-mod layout;
 mod line;
-mod made;
 mod script;
 mod sweep;
-mod things;
 mod tool;
-mod words;
 
 use bench::Bench;
-use case_error::CaseError;
+use case_cards::CaseError;
 use counted::Calls;
 use line::Line;
 use std::cell::Cell;

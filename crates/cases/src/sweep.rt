@@ -1,13 +1,12 @@
 //! Power that is lost, and calls that fail, at each call on a device in turn.
 
 use crate::act::{Act, Played};
-use crate::case_error::CaseError;
 use crate::counted::Calls;
 use crate::device::{Faults, failing};
 use crate::fault_plan::FailsAfterChanges;
-use crate::image::Image;
 use crate::line::Sweep;
 use crate::tool::{Streams, call};
+use case_cards::{CaseError, Image};
 use flash_core::{FaultyFlash, FuseFlash, MemFlash, OnceFlash};
 use std::alloc::{AllocError, Global};
 use std::cell::Cell;

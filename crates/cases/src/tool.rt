@@ -1,7 +1,7 @@
 //! Calls of the program `gp`, over streams in memory.
 
-use crate::case_error::CaseError;
 use crate::device::{Device, memory};
+use case_cards::CaseError;
 use flash_core::MemFlash;
 use gp_tool::gp;
 use io_edge::{MemSink, MemSource};

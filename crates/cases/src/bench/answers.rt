@@ -1,12 +1,11 @@
 //! What a case answers of the device, the streams and the registry.
 
 use crate::bench::{Bench, Power, place_of, write_line};
-use crate::case_error::CaseError;
 use crate::device::Device;
-use crate::image::Image;
 use crate::script::Player;
 use crate::tool::{Streams, call};
 use arrayvec::ArrayVec;
+use case_cards::{CaseError, Image};
 use script_tool::Mill;
 
 /// How many lines a round of a workload has.

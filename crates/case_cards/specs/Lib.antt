@@ -1,0 +1,5 @@
+pub mod Image
+pub mod Things
+pub mod Made
+pub mod Slots
+pub mod Layout
