@@ -9,6 +9,7 @@ ghost use Rattle.scp03_card.specs.Opens.{accepting};
 ghost use Rattle.scp03_card.specs.Protected.{session_reply};
 ghost use Rattle.scp03_card.specs.Session as model;
 
+use crate::digits::bytes;
 use aes_block::{Aes128, Aes192, Aes256, BlockKey};
 use apdu_core::{Command, Status};
 use arrayvec::ArrayVec;
@@ -36,16 +37,6 @@ type Told = Result<(), &'static str>;
 
 fn told(holds: bool, what: &'static str) -> Told {
     if holds { Ok(()) } else { Err(what) }
-}
-
-/// The bytes that these hexadecimal digits write.
-fn bytes(digits: &[u8]) -> ArrayVec<u8, 258> {
-    let mut bytes = ArrayVec::new();
-    for _ in 0..digits.len() / 2 {
-        let _fits = bytes.try_push(0);
-    }
-    let _even = hex::decode_to_slice(digits, bytes.as_mut_slice());
-    bytes
 }
 
 /// A session that the host has begun, and the values of the card before: `card` is the challenge and
@@ -88,7 +79,7 @@ fn open<K: BlockKey>(
     sent: &[u8],
     plain: &mut [u8; 255],
 ) -> Option<Result<usize, OpenRefusal>> {
-    let sent = bytes(sent);
+    let sent = bytes::<258>(sent);
     let Ok(command) = Command::read(&sent) else {
         return None;
     };
@@ -107,7 +98,10 @@ fn exchange<K: BlockKey>(
     let mut buffer = [0; 255];
     let opened = open(session, sent, &mut buffer).ok_or("a command")?;
     let count = opened.ok().ok_or("opens")?;
-    told(buffer.get(..count) == Some(&bytes(plain)[..]), "plain")?;
+    told(
+        buffer.get(..count) == Some(&bytes::<258>(plain)[..]),
+        "plain",
+    )?;
     let mut reply = bytes(data);
     if reply.len() > 239 {
         return Err("a data field");
@@ -137,7 +131,7 @@ fn answered<K: BlockKey>(
 /// What comes of GET DATA with a reply of five bytes, and the reply.
 fn get_data() -> Result<(Result<usize, OpenRefusal>, ArrayVec<u8, 258>), &'static str> {
     let mut session = begin_session::<Aes128>(0, CARD, Level::Full, HOST_FULL)?;
-    let sent = bytes(GET_DATA);
+    let sent = bytes::<258>(GET_DATA);
     let command = Command::read(&sent).ok().ok_or("a command")?;
     let mut reply = bytes(b"c103000001");
     if reply.len() > 239 || command.body.len() > 255 {
@@ -150,7 +144,7 @@ fn get_data() -> Result<(Result<usize, OpenRefusal>, ArrayVec<u8, 258>), &'stati
 
 #[test]
 fn an_answered_command(rt: HostRuntime) {
-    let reply = bytes(b"fd75588f5a63ef6905c90d099f369ee91e85fc9247a98b7c9000");
+    let reply = bytes::<258>(b"fd75588f5a63ef6905c90d099f369ee91e85fc9247a98b7c9000");
     assert!(rt; get_data() == Ok((Ok(0), reply)));
 }
 

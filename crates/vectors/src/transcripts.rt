@@ -18,7 +18,7 @@ use keys_of_24::KEYS_OF_24;
 use keys_of_32::KEYS_OF_32;
 use scp03_card::{Offer, Session, StaticKeys, offer};
 use scp03_host::{HostSession, begin};
-use table::{AID, HOST_CHALLENGE, PLAIN, Plain, STATIC_KEY, Sent, Transcript, Values};
+use table::{AID, HOST_CHALLENGE, PLAIN, Plain, STATIC_KEY, Transcript, Values};
 
 type Told<T> = Result<T, &'static str>;
 
@@ -105,16 +105,6 @@ fn derivations<K: BlockKey, const N: usize>(values: &Values) -> Told<()>
     )
 }
 
-#[test]
-fn derived_values(rt: HostRuntime) {
-    let told = [
-        derivations::<Aes128, 16>(&KEYS_OF_16),
-        derivations::<Aes192, 24>(&KEYS_OF_24),
-        derivations::<Aes256, 32>(&KEYS_OF_32),
-    ];
-    assert!(rt; told == [Ok(()), Ok(()), Ok(())]);
-}
-
 fn keys<K: BlockKey>() -> Told<StaticKeys<K>> {
     Ok(StaticKeys {
         enc: static_key()?,
@@ -199,29 +189,12 @@ fn begun_card<K: BlockKey>(
     Ok(card)
 }
 
-/// The command as it is sent.
-fn sent_command(sent: &Sent) -> ArrayVec<u8, 261> {
-    let mut bytes = bytes(sent.command);
-    let _fits = bytes.try_extend_from_slice(&sent.c_mac.to_be_bytes());
-    bytes
-}
-
-/// The reply as it is sent.
-fn sent_reply(sent: &Sent, status: u16) -> ArrayVec<u8, 258> {
-    let mut bytes = bytes(sent.field);
-    if let Some(mac) = sent.r_mac {
-        let _fits = bytes.try_extend_from_slice(&mac.to_be_bytes());
-    }
-    let _fits = bytes.try_extend_from_slice(&status.to_be_bytes());
-    bytes
-}
-
 /// The host sends a command, and the card opens it.
 fn command_sent<K: BlockKey>(
     host: &mut HostSession<K>,
     card: &mut Session<K>,
     plain: &Plain,
-    sent: &Sent,
+    sent: &[u8],
 ) -> Told<()> {
     let plain_bytes: ArrayVec<u8, 261> = bytes(plain.command);
     let command = Command::read(&plain_bytes).ok().ok_or("a command")?;
@@ -232,7 +205,7 @@ fn command_sent<K: BlockKey>(
     host.wrap(&command, plain.channel, &mut out)
         .ok()
         .ok_or("room")?;
-    told(out == sent_command(sent), "the command as it is sent")?;
+    told(out == bytes(sent), "the command as it is sent")?;
 
     let received = Command::read(&out).ok().ok_or("a command")?;
     let mut field = [0; 255];
@@ -246,12 +219,12 @@ fn command_sent<K: BlockKey>(
     )
 }
 
-/// The card sends the reply, and the host unwraps it. Where nothing of a data field was sent, the host has none.
+/// The card sends the reply, and the host unwraps it. Where no more than a status word was sent, the host has no data field.
 fn reply_sent<K: BlockKey>(
     host: &mut HostSession<K>,
     card: &mut Session<K>,
     plain: &Plain,
-    sent: &Sent,
+    sent: &[u8],
 ) -> Told<()> {
     let status = Status(plain.status);
     let mut reply = bytes(plain.field);
@@ -259,17 +232,14 @@ fn reply_sent<K: BlockKey>(
         return Err("a data field");
     }
     card.close_reply(&mut reply, status);
-    told(
-        reply == sent_reply(sent, plain.status),
-        "the reply as it is sent",
-    )?;
+    told(reply == bytes(sent), "the reply as it is sent")?;
 
     let mut field = ArrayVec::new();
     told(
         host.unwrap(&reply, &mut field) == Ok(status),
         "the status at the host",
     )?;
-    let wanted = if sent.field.is_empty() {
+    let wanted = if sent.len() == 4 {
         b"".as_slice()
     } else {
         plain.field
@@ -281,26 +251,34 @@ fn play<K: BlockKey>(values: &Values, transcript: &Transcript) -> Told<()> {
     let mut sent = ArrayVec::new();
     let mut host: HostSession<K> = begun_host(values, transcript, &mut sent)?;
     let mut card = begun_card(values, transcript, &sent)?;
-    for (plain, sent) in PLAIN.iter().zip(&transcript.sent) {
-        command_sent(&mut host, &mut card, plain, sent)?;
-        reply_sent(&mut host, &mut card, plain, sent)?;
+    let sent = transcript.commands.iter().zip(&transcript.replies);
+    for (plain, (command, reply)) in PLAIN.iter().zip(sent) {
+        command_sent(&mut host, &mut card, plain, command)?;
+        reply_sent(&mut host, &mut card, plain, reply)?;
     }
     Ok(())
 }
 
-fn play_all<K: BlockKey>(values: &Values) -> Result<(), (Level, &'static str)> {
+/// The keys have `N` bytes.
+fn play_all<K: BlockKey, const N: usize>(
+    values: &Values,
+) -> Result<(), (Option<Level>, &'static str)>
+    requires some { 0 < N }
+    requires most { N ≤ 32 }
+{
+    derivations::<K, N>(values).map_err(|what| (None, what))?;
     for transcript in &values.transcripts {
-        play::<K>(values, transcript).map_err(|what| (transcript.level, what))?;
+        play::<K>(values, transcript).map_err(|what| (Some(transcript.level), what))?;
     }
     Ok(())
 }
 
 #[test]
-fn transcripts_at_each_level(rt: HostRuntime) {
+fn keys_of_each_length(rt: HostRuntime) {
     let told = [
-        play_all::<Aes128>(&KEYS_OF_16),
-        play_all::<Aes192>(&KEYS_OF_24),
-        play_all::<Aes256>(&KEYS_OF_32),
+        play_all::<Aes128, 16>(&KEYS_OF_16),
+        play_all::<Aes192, 24>(&KEYS_OF_24),
+        play_all::<Aes256, 32>(&KEYS_OF_32),
     ];
     assert!(rt; told == [Ok(()), Ok(()), Ok(())]);
 }

@@ -1,6 +1,6 @@
 // The static keys are 40 to 4F.
 
-use crate::transcripts::table::{Sent, Transcript, Values};
+use crate::transcripts::table::{Transcript, Values};
 use card_types::Level;
 
 pub const KEYS_OF_16: Values = Values {
@@ -15,151 +15,81 @@ pub const KEYS_OF_16: Values = Values {
         Transcript {
             level: Level::Mac,
             authenticate: b"848201001076857f0738ab14222d8dc8e0cddd3b2a",
-            sent: [
-                Sent {
-                    command: b"84ca00c108",
-                    c_mac: 0x88910f8a9e0ff493,
-                    field: b"c103000001",
-                    r_mac: None,
-                },
-                Sent {
-                    command: b"86f240020a4f00",
-                    c_mac: 0xbef9a1ec24f4e4d2,
-                    field: b"",
-                    r_mac: None,
-                },
-                Sent {
-                    command: b"84e400001a4f10a0a1a2a3a4a5a6a7a8a9aaabacadaeaf",
-                    c_mac: 0xa42a1f02368c92f8,
-                    field: b"00",
-                    r_mac: None,
-                },
-                Sent {
-                    command: b"85e2900018000102030405060708090a0b0c0d0e0f",
-                    c_mac: 0xff8d387e2ad10e3b,
-                    field: b"101112131415161718191a1b1c1d1e1f",
-                    r_mac: None,
-                },
+            commands: [
+                b"84ca00c10888910f8a9e0ff493",
+                b"86f240020a4f00bef9a1ec24f4e4d2",
+                b"84e400001a4f10a0a1a2a3a4a5a6a7a8a9aaabacadaeafa42a1f02368c92f8",
+                b"85e2900018000102030405060708090a0b0c0d0e0fff8d387e2ad10e3b",
+            ],
+            replies: [
+                b"c1030000019000",
+                b"6310",
+                b"006a88",
+                b"101112131415161718191a1b1c1d1e1f9000",
             ],
         },
         Transcript {
             level: Level::EncMac,
             authenticate: b"848203001076857f0738ab1422175ebdab660f4280",
-            sent: [
-                Sent {
-                    command: b"84ca00c108",
-                    c_mac: 0xa79beaec6d951a0f,
-                    field: b"c103000001",
-                    r_mac: None,
-                },
-                Sent {
-                    command: b"86f24002182fb52f669170f38c7b57ee68b891badf",
-                    c_mac: 0x7dde136f3a69899e,
-                    field: b"",
-                    r_mac: None,
-                },
-                Sent {
-                    command: b"84e400002898f7d8c342b68c9a2d85e39eda82a457f1632f11b920132a6a7c9e86d5aee226",
-                    c_mac: 0x9fcf4a1c1e18a7d0,
-                    field: b"00",
-                    r_mac: None,
-                },
-                Sent {
-                    command: b"85e2900028abfcff01b81d2d8d549eb6f04a18bd5ba809a4cb6b46dcd5f4d8946ee2b4980f",
-                    c_mac: 0xea97544c6ea38200,
-                    field: b"101112131415161718191a1b1c1d1e1f",
-                    r_mac: None,
-                },
+            commands: [
+                b"84ca00c108a79beaec6d951a0f",
+                b"86f24002182fb52f669170f38c7b57ee68b891badf7dde136f3a69899e",
+                b"84e400002898f7d8c342b68c9a2d85e39eda82a457f1632f11b920132a6a7c9e86d5aee2269fcf4a1c1e18a7d0",
+                b"85e2900028abfcff01b81d2d8d549eb6f04a18bd5ba809a4cb6b46dcd5f4d8946ee2b4980fea97544c6ea38200",
+            ],
+            replies: [
+                b"c1030000019000",
+                b"6310",
+                b"006a88",
+                b"101112131415161718191a1b1c1d1e1f9000",
             ],
         },
         Transcript {
             level: Level::MacR,
             authenticate: b"848211001076857f0738ab1422ef323fbe5edf2a8f",
-            sent: [
-                Sent {
-                    command: b"84ca00c108",
-                    c_mac: 0x3f52caa85154bb2d,
-                    field: b"c103000001",
-                    r_mac: Some(0x021e30d5aed62bd5),
-                },
-                Sent {
-                    command: b"86f240020a4f00",
-                    c_mac: 0xc3fc5f7f8cbcc42c,
-                    field: b"",
-                    r_mac: Some(0x29d3e997b4f7b23a),
-                },
-                Sent {
-                    command: b"84e400001a4f10a0a1a2a3a4a5a6a7a8a9aaabacadaeaf",
-                    c_mac: 0x92a5c08644a1a5e0,
-                    field: b"",
-                    r_mac: None,
-                },
-                Sent {
-                    command: b"85e2900018000102030405060708090a0b0c0d0e0f",
-                    c_mac: 0x9415c18948d8c8ab,
-                    field: b"101112131415161718191a1b1c1d1e1f",
-                    r_mac: Some(0x3621a4bfa3ecbfd0),
-                },
+            commands: [
+                b"84ca00c1083f52caa85154bb2d",
+                b"86f240020a4f00c3fc5f7f8cbcc42c",
+                b"84e400001a4f10a0a1a2a3a4a5a6a7a8a9aaabacadaeaf92a5c08644a1a5e0",
+                b"85e2900018000102030405060708090a0b0c0d0e0f9415c18948d8c8ab",
+            ],
+            replies: [
+                b"c103000001021e30d5aed62bd59000",
+                b"29d3e997b4f7b23a6310",
+                b"6a88",
+                b"101112131415161718191a1b1c1d1e1f3621a4bfa3ecbfd09000",
             ],
         },
         Transcript {
             level: Level::EncMacR,
             authenticate: b"848213001076857f0738ab1422ac1e5412e7c32421",
-            sent: [
-                Sent {
-                    command: b"84ca00c108",
-                    c_mac: 0x39e77c4412a338b8,
-                    field: b"c103000001",
-                    r_mac: Some(0x3f4bc01af81a8edf),
-                },
-                Sent {
-                    command: b"86f24002182fb52f669170f38c7b57ee68b891badf",
-                    c_mac: 0xd9c23c5fba3844dd,
-                    field: b"",
-                    r_mac: Some(0xa4a3716a237fbb5e),
-                },
-                Sent {
-                    command: b"84e400002898f7d8c342b68c9a2d85e39eda82a457f1632f11b920132a6a7c9e86d5aee226",
-                    c_mac: 0x949ff3f0018dc638,
-                    field: b"",
-                    r_mac: None,
-                },
-                Sent {
-                    command: b"85e2900028abfcff01b81d2d8d549eb6f04a18bd5ba809a4cb6b46dcd5f4d8946ee2b4980f",
-                    c_mac: 0x11e8fb3d47e68e4b,
-                    field: b"101112131415161718191a1b1c1d1e1f",
-                    r_mac: Some(0x374e99efdb401d30),
-                },
+            commands: [
+                b"84ca00c10839e77c4412a338b8",
+                b"86f24002182fb52f669170f38c7b57ee68b891badfd9c23c5fba3844dd",
+                b"84e400002898f7d8c342b68c9a2d85e39eda82a457f1632f11b920132a6a7c9e86d5aee226949ff3f0018dc638",
+                b"85e2900028abfcff01b81d2d8d549eb6f04a18bd5ba809a4cb6b46dcd5f4d8946ee2b4980f11e8fb3d47e68e4b",
+            ],
+            replies: [
+                b"c1030000013f4bc01af81a8edf9000",
+                b"a4a3716a237fbb5e6310",
+                b"6a88",
+                b"101112131415161718191a1b1c1d1e1f374e99efdb401d309000",
             ],
         },
         Transcript {
             level: Level::Full,
             authenticate: b"848233001076857f0738ab1422cc3a9195e19f90a3",
-            sent: [
-                Sent {
-                    command: b"84ca00c108",
-                    c_mac: 0x39888bfe9333e491,
-                    field: b"fd75588f5a63ef6905c90d099f369ee9",
-                    r_mac: Some(0x1e85fc9247a98b7c),
-                },
-                Sent {
-                    command: b"86f24002182fb52f669170f38c7b57ee68b891badf",
-                    c_mac: 0x4b9d1e756d9eafa5,
-                    field: b"",
-                    r_mac: Some(0x2417e9df37c6ea3b),
-                },
-                Sent {
-                    command: b"84e400002898f7d8c342b68c9a2d85e39eda82a457f1632f11b920132a6a7c9e86d5aee226",
-                    c_mac: 0x20bf2f4a2d46e72a,
-                    field: b"",
-                    r_mac: None,
-                },
-                Sent {
-                    command: b"85e2900028abfcff01b81d2d8d549eb6f04a18bd5ba809a4cb6b46dcd5f4d8946ee2b4980f",
-                    c_mac: 0x949632b1e6de0826,
-                    field: b"3f9c99dd0c48721ce7ba6f35f0b853c2e8fe1356f99beec56c5d65938665dd41",
-                    r_mac: Some(0x68d8e6980f4e8e71),
-                },
+            commands: [
+                b"84ca00c10839888bfe9333e491",
+                b"86f24002182fb52f669170f38c7b57ee68b891badf4b9d1e756d9eafa5",
+                b"84e400002898f7d8c342b68c9a2d85e39eda82a457f1632f11b920132a6a7c9e86d5aee22620bf2f4a2d46e72a",
+                b"85e2900028abfcff01b81d2d8d549eb6f04a18bd5ba809a4cb6b46dcd5f4d8946ee2b4980f949632b1e6de0826",
+            ],
+            replies: [
+                b"fd75588f5a63ef6905c90d099f369ee91e85fc9247a98b7c9000",
+                b"2417e9df37c6ea3b6310",
+                b"6a88",
+                b"3f9c99dd0c48721ce7ba6f35f0b853c2e8fe1356f99beec56c5d65938665dd4168d8e6980f4e8e719000",
             ],
         },
     ],

@@ -1,6 +1,6 @@
 // The static keys are 40 to 57.
 
-use crate::transcripts::table::{Sent, Transcript, Values};
+use crate::transcripts::table::{Transcript, Values};
 use card_types::Level;
 
 pub const KEYS_OF_24: Values = Values {
@@ -15,151 +15,81 @@ pub const KEYS_OF_24: Values = Values {
         Transcript {
             level: Level::Mac,
             authenticate: b"84820100109a8eeff0f8bf04f207d1b7a082e7f2cb",
-            sent: [
-                Sent {
-                    command: b"84ca00c108",
-                    c_mac: 0xd230b11f639b1951,
-                    field: b"c103000001",
-                    r_mac: None,
-                },
-                Sent {
-                    command: b"86f240020a4f00",
-                    c_mac: 0x963035be4247aef4,
-                    field: b"",
-                    r_mac: None,
-                },
-                Sent {
-                    command: b"84e400001a4f10a0a1a2a3a4a5a6a7a8a9aaabacadaeaf",
-                    c_mac: 0x313539403305a98f,
-                    field: b"00",
-                    r_mac: None,
-                },
-                Sent {
-                    command: b"85e2900018000102030405060708090a0b0c0d0e0f",
-                    c_mac: 0x56d8716bd4bff0fe,
-                    field: b"101112131415161718191a1b1c1d1e1f",
-                    r_mac: None,
-                },
+            commands: [
+                b"84ca00c108d230b11f639b1951",
+                b"86f240020a4f00963035be4247aef4",
+                b"84e400001a4f10a0a1a2a3a4a5a6a7a8a9aaabacadaeaf313539403305a98f",
+                b"85e2900018000102030405060708090a0b0c0d0e0f56d8716bd4bff0fe",
+            ],
+            replies: [
+                b"c1030000019000",
+                b"6310",
+                b"006a88",
+                b"101112131415161718191a1b1c1d1e1f9000",
             ],
         },
         Transcript {
             level: Level::EncMac,
             authenticate: b"84820300109a8eeff0f8bf04f2b325a97f348b6b9b",
-            sent: [
-                Sent {
-                    command: b"84ca00c108",
-                    c_mac: 0x3a628bc5e1bf11eb,
-                    field: b"c103000001",
-                    r_mac: None,
-                },
-                Sent {
-                    command: b"86f240021887308d1c53634af130d555e9a8ddddf7",
-                    c_mac: 0xffe3f2febc269b98,
-                    field: b"",
-                    r_mac: None,
-                },
-                Sent {
-                    command: b"84e4000028dc8d9c7c8f9b4c12513a0c9dd59b5c64859bc90e53cc6556630fb5d4c1a1a375",
-                    c_mac: 0x861f86363796aa7f,
-                    field: b"00",
-                    r_mac: None,
-                },
-                Sent {
-                    command: b"85e290002825b3cd31e64b2763acf0455241ad404ca03fa8e951c78538e96a134d2def28bc",
-                    c_mac: 0x0b1225d7e114bf68,
-                    field: b"101112131415161718191a1b1c1d1e1f",
-                    r_mac: None,
-                },
+            commands: [
+                b"84ca00c1083a628bc5e1bf11eb",
+                b"86f240021887308d1c53634af130d555e9a8ddddf7ffe3f2febc269b98",
+                b"84e4000028dc8d9c7c8f9b4c12513a0c9dd59b5c64859bc90e53cc6556630fb5d4c1a1a375861f86363796aa7f",
+                b"85e290002825b3cd31e64b2763acf0455241ad404ca03fa8e951c78538e96a134d2def28bc0b1225d7e114bf68",
+            ],
+            replies: [
+                b"c1030000019000",
+                b"6310",
+                b"006a88",
+                b"101112131415161718191a1b1c1d1e1f9000",
             ],
         },
         Transcript {
             level: Level::MacR,
             authenticate: b"84821100109a8eeff0f8bf04f2e0196fe6752758f6",
-            sent: [
-                Sent {
-                    command: b"84ca00c108",
-                    c_mac: 0x7dcf1bf2289e59e2,
-                    field: b"c103000001",
-                    r_mac: Some(0xa1070ea150f01da8),
-                },
-                Sent {
-                    command: b"86f240020a4f00",
-                    c_mac: 0x45c059c1ffd6b9b0,
-                    field: b"",
-                    r_mac: Some(0xa4ede789a8864dce),
-                },
-                Sent {
-                    command: b"84e400001a4f10a0a1a2a3a4a5a6a7a8a9aaabacadaeaf",
-                    c_mac: 0xff13831a3715d845,
-                    field: b"",
-                    r_mac: None,
-                },
-                Sent {
-                    command: b"85e2900018000102030405060708090a0b0c0d0e0f",
-                    c_mac: 0x06c16a0ab3fb1a00,
-                    field: b"101112131415161718191a1b1c1d1e1f",
-                    r_mac: Some(0x9706c9cc8090c9d8),
-                },
+            commands: [
+                b"84ca00c1087dcf1bf2289e59e2",
+                b"86f240020a4f0045c059c1ffd6b9b0",
+                b"84e400001a4f10a0a1a2a3a4a5a6a7a8a9aaabacadaeafff13831a3715d845",
+                b"85e2900018000102030405060708090a0b0c0d0e0f06c16a0ab3fb1a00",
+            ],
+            replies: [
+                b"c103000001a1070ea150f01da89000",
+                b"a4ede789a8864dce6310",
+                b"6a88",
+                b"101112131415161718191a1b1c1d1e1f9706c9cc8090c9d89000",
             ],
         },
         Transcript {
             level: Level::EncMacR,
             authenticate: b"84821300109a8eeff0f8bf04f2e1ace7f7c79a612c",
-            sent: [
-                Sent {
-                    command: b"84ca00c108",
-                    c_mac: 0x7b3ab224a42bf0fa,
-                    field: b"c103000001",
-                    r_mac: Some(0xf97040abe713d675),
-                },
-                Sent {
-                    command: b"86f240021887308d1c53634af130d555e9a8ddddf7",
-                    c_mac: 0xb47caf8703621c8e,
-                    field: b"",
-                    r_mac: Some(0x7e395bec6cd80cc8),
-                },
-                Sent {
-                    command: b"84e4000028dc8d9c7c8f9b4c12513a0c9dd59b5c64859bc90e53cc6556630fb5d4c1a1a375",
-                    c_mac: 0x079ba9aeecbdda60,
-                    field: b"",
-                    r_mac: None,
-                },
-                Sent {
-                    command: b"85e290002825b3cd31e64b2763acf0455241ad404ca03fa8e951c78538e96a134d2def28bc",
-                    c_mac: 0xf354129c52e5f357,
-                    field: b"101112131415161718191a1b1c1d1e1f",
-                    r_mac: Some(0xeca807612dafeb61),
-                },
+            commands: [
+                b"84ca00c1087b3ab224a42bf0fa",
+                b"86f240021887308d1c53634af130d555e9a8ddddf7b47caf8703621c8e",
+                b"84e4000028dc8d9c7c8f9b4c12513a0c9dd59b5c64859bc90e53cc6556630fb5d4c1a1a375079ba9aeecbdda60",
+                b"85e290002825b3cd31e64b2763acf0455241ad404ca03fa8e951c78538e96a134d2def28bcf354129c52e5f357",
+            ],
+            replies: [
+                b"c103000001f97040abe713d6759000",
+                b"7e395bec6cd80cc86310",
+                b"6a88",
+                b"101112131415161718191a1b1c1d1e1feca807612dafeb619000",
             ],
         },
         Transcript {
             level: Level::Full,
             authenticate: b"84823300109a8eeff0f8bf04f2039d909012d20ba3",
-            sent: [
-                Sent {
-                    command: b"84ca00c108",
-                    c_mac: 0xc73fb2eaea475fea,
-                    field: b"d9fc305fbf6bc1a9b708a722de9529be",
-                    r_mac: Some(0x42d46e933e65d999),
-                },
-                Sent {
-                    command: b"86f240021887308d1c53634af130d555e9a8ddddf7",
-                    c_mac: 0x1573c8feece70e21,
-                    field: b"",
-                    r_mac: Some(0xf75b1c335b9f6694),
-                },
-                Sent {
-                    command: b"84e4000028dc8d9c7c8f9b4c12513a0c9dd59b5c64859bc90e53cc6556630fb5d4c1a1a375",
-                    c_mac: 0x31486ee07232e50a,
-                    field: b"",
-                    r_mac: None,
-                },
-                Sent {
-                    command: b"85e290002825b3cd31e64b2763acf0455241ad404ca03fa8e951c78538e96a134d2def28bc",
-                    c_mac: 0x582e66fddd846e4d,
-                    field: b"83b02ded88fb989708cb6e3f1359a779a51396919412f69a0cd0b22e07cf836a",
-                    r_mac: Some(0xb747469988730d91),
-                },
+            commands: [
+                b"84ca00c108c73fb2eaea475fea",
+                b"86f240021887308d1c53634af130d555e9a8ddddf71573c8feece70e21",
+                b"84e4000028dc8d9c7c8f9b4c12513a0c9dd59b5c64859bc90e53cc6556630fb5d4c1a1a37531486ee07232e50a",
+                b"85e290002825b3cd31e64b2763acf0455241ad404ca03fa8e951c78538e96a134d2def28bc582e66fddd846e4d",
+            ],
+            replies: [
+                b"d9fc305fbf6bc1a9b708a722de9529be42d46e933e65d9999000",
+                b"f75b1c335b9f66946310",
+                b"6a88",
+                b"83b02ded88fb989708cb6e3f1359a779a51396919412f69a0cd0b22e07cf836ab747469988730d919000",
             ],
         },
     ],

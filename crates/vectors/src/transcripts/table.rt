@@ -20,21 +20,13 @@ pub struct Plain {
     pub status: u16,
 }
 
-/// A command and its reply as they are sent: the command up to its C-MAC, the data field of the reply up to its R-MAC.
-#[derive(Clone, Copy)]
-pub struct Sent {
-    pub command: &'static [u8],
-    pub c_mac: u64,
-    pub field: &'static [u8],
-    pub r_mac: Option<u64>,
-}
-
-/// A session at a level: EXTERNAL AUTHENTICATE, and what is sent for each command and reply.
+/// A session at a level: EXTERNAL AUTHENTICATE, and the commands and replies as they are sent, with C-MAC, R-MAC and status word.
 #[derive(Clone, Copy)]
 pub struct Transcript {
     pub level: Level,
     pub authenticate: &'static [u8],
-    pub sent: [Sent; 4],
+    pub commands: [&'static [u8]; 4],
+    pub replies: [&'static [u8]; 4],
 }
 
 /// The values of sessions with keys of one length.
