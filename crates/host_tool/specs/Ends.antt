@@ -6,6 +6,8 @@ use Rattle.faults.specs.Faults.{Rose, next_count}
 use Rattle.io_edge.specs.Lines.{IsNextLine, Reading}
 use Rattle.io_edge.specs.Streams.{SinkState, SourceState}
 use Rattle.io_edge.specs.declared.line.TheConstants.{INPUT_LIMIT, LINE_LIMIT}
+use Rattle.io_edge.specs.declared.sink.Sink.{Ghosts as Sink}
+use Rattle.io_edge.specs.declared.source.Source.{Ghosts as Source}
 use Rattle.line_runs.specs.Outside.{CutsText, Outside, Wrote, bad_line, outside}
 use Rattle.line_runs.specs.Taken.{AreAllTaken, ComeFirst, HoldsNoLine, IsBadLine, IsShortCut, TakesNoMore, room_ahead}
 use Rattle.script_tool.specs.Host.{Host, first_host}
@@ -40,6 +42,23 @@ pub record Tells : Type 1 where
 
 abbrev pub tells_of : Type 0 → Type 0 → Type 0 → Type 0 → Tells
 tells_of script replies commands transcript = record { script = script; replies = replies; commands = commands; transcript = transcript }
+
+-- the sources and sinks themselves
+pub record Ports (C S K T : Type 0) : Type 0 where
+  pub script : C
+  pub replies : S
+  pub commands : K
+  pub transcript : T
+
+abbrev pub ports : {C S K T : Type 0} → C → S → K → T → Ports C S K T
+ports script replies commands transcript = record { script = script; replies = replies; commands = commands; transcript = transcript }
+
+-- `So` holds of what these sources and sinks tell, and of their streams before and after
+abbrev pub ForStreams : {C S K T : Type 0} → Source C → Source S → Sink K → Sink T → (Tells → Streams → Streams → Type 0) → Ports C S K T → Ports C S K T → Type 0
+ForStreams script replies commands transcript So old new =
+    So (tells_of script.tells replies.tells commands.tells transcript.tells)
+    (flow (script.state old.script) (replies.state old.replies) (commands.state old.commands) (transcript.state old.transcript))
+    (flow (script.state new.script) (replies.state new.replies) (commands.state new.commands) (transcript.state new.transcript))
 
 -- the script and the transcript
 abbrev pub script_side : Streams → Outside

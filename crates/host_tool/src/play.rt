@@ -1,6 +1,6 @@
 //! A script that is played.
 
-ghost use Rattle.host_tool.specs.Ends.{IsOver, HostEnds, flow, tells_of};
+ghost use Rattle.host_tool.specs.Ends.{ForStreams, HostEnds, IsOver, ports};
 ghost use Rattle.host_tool.specs.Flush.{HostFlushes};
 
 use crate::ended::Ended;
@@ -30,13 +30,11 @@ pub fn play_script<C: Source, S: Source, K: Sink, T: Sink>(
     commands: K,
     transcript: &mut T,
 ) -> Ended<S, K>
-    ensures ends { HostEnds (tells_of C.tells S.tells K.tells T.tells) result.status
-        (flow (C.state script.old) (S.state replies) (K.state commands) (T.state transcript.old))
-        (flow (C.state script.new) (S.state result.replies) (K.state result.commands) (T.state transcript.new)) }
+    ensures ends { ForStreams C.Source S.Source K.Sink T.Sink (λ tells old new. HostEnds tells result.status old new)
+        (ports script.old replies commands transcript.old) (ports script.new result.replies result.commands transcript.new) }
 
-    ensures complete { IsOver (tells_of C.tells S.tells K.tells T.tells) result.status
-        (flow (C.state script.old) (S.state replies) (K.state commands) (T.state transcript.old))
-        (flow (C.state script.new) (S.state result.replies) (K.state result.commands) (T.state transcript.new)) }
+    ensures complete { ForStreams C.Source S.Source K.Sink T.Sink (λ tells old new. IsOver tells result.status old new)
+        (ports script.old replies commands transcript.old) (ports script.new result.replies result.commands transcript.new) }
 {
     let mut host = ScriptHost::new(replies, commands);
     let end = take_lines(&mut host, script, transcript);

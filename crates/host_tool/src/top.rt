@@ -1,7 +1,7 @@
 //! The top call.
 
 ghost use Rattle.std.specs.Prelude.{◌≡◌};
-ghost use Rattle.host_tool.specs.Ends.{IsOver, flow, tells_of};
+ghost use Rattle.host_tool.specs.Ends.{ForStreams, IsOver, ports};
 ghost use Rattle.host_tool.specs.Words.{EndsInText, EndsPlay, IsOneWord, host_usage};
 
 use crate::command_line::hand_on;
@@ -41,13 +41,11 @@ pub fn gp_host<C: ScriptFile, S: Source, K: Sink, T: Sink>(
     ensures idle { (IsOneWord words.now → ⊥) → (script.new ≡ script.old) × (result.replies ≡ replies) × (result.commands ≡ commands) }
 
     // One word: the file with that name was not opened, or its script was played up to an ending.
-    ensures played { IsOneWord words.now → EndsPlay (tells_of C.tells S.tells K.tells T.tells) result.status
-        (flow (C.state script.old) (S.state replies) (K.state commands) (T.state transcript.old))
-        (flow (C.state script.new) (S.state result.replies) (K.state result.commands) (T.state transcript.new)) }
+    ensures played { IsOneWord words.now → ForStreams C.Source S.Source K.Sink T.Sink (λ tells old new. EndsPlay tells result.status old new)
+        (ports script.old replies commands transcript.old) (ports script.new result.replies result.commands transcript.new) }
 
-    ensures complete { IsOneWord words.now → IsOver (tells_of C.tells S.tells K.tells T.tells) result.status
-        (flow (C.state script.old) (S.state replies) (K.state commands) (T.state transcript.old))
-        (flow (C.state script.new) (S.state result.replies) (K.state result.commands) (T.state transcript.new)) }
+    ensures complete { IsOneWord words.now → ForStreams C.Source S.Source K.Sink T.Sink (λ tells old new. IsOver tells result.status old new)
+        (ports script.old replies commands transcript.old) (ports script.new result.replies result.commands transcript.new) }
 {
     match words {
         [name] => match script.open(name.as_str()) {
