@@ -1,6 +1,7 @@
-//! Tests of what a card keeps, where they need a type: devices, pages, the registry and what judges it. There is nothing to call. What
-//! a card answers is tried by the program `cases`.
+//! Tests of what a card keeps, where they need a type: devices, pages, the registry and what judges it, and the desk that judges
+//! receipts. There is nothing to call. What a card answers is tried by the program `cases`.
 //!
+//! - `desks`: a desk that signs tokens and judges receipts, and its lines.
 //! - `devices`: flash devices that fail, and a file.
 //! - `domains`: which security domains are above which.
 //! - `frames`: thirty frames.
@@ -12,6 +13,8 @@
 //! - `values`: identifiers, privileges, codes, sequence counters.
 #![tactic(auto)]
 
+#[cfg(test)]
+mod desks;
 #[cfg(test)]
 mod devices;
 #[cfg(test)]

@@ -1,7 +1,7 @@
 //! Tokens and receipts of delegated management, under keys of three lengths. The wanted bytes were computed by another
 //! implementation of CMAC.
 
-use crate::digits::bytes;
+use crate::digits::{bytes, key};
 use aes_block::{Aes256, BlockKey, SealingAes128, SealingAes192};
 use arrayvec::ArrayVec;
 use card_types::Aid;
@@ -17,18 +17,9 @@ const KEY_128: &[u8] = b"404142434445464748494a4b4c4d4e4f";
 /// The data field of an INSTALL before its token.
 const BEFORE: &[u8] = b"05d2000000aa05d2000000ab05d2000000ab010002c900";
 
-/// A key of so many bytes.
-fn key_of<K: BlockKey>(digits: &[u8]) -> Option<K> {
-    let bytes: ArrayVec<u8, 32> = bytes(digits);
-    if bytes.len() != K::LEN {
-        return None;
-    }
-    Some(K::from_key(&bytes))
-}
-
 /// The tokens of an INSTALL, and of a command whose data field has nothing before its token, and whether the first fits.
 fn tokens<K: BlockKey>(digits: &[u8]) -> Option<([u8; 16], [u8; 16], bool)> {
-    let key: K = key_of(digits)?;
+    let key: K = key(digits)?;
     let before: ArrayVec<u8, 32> = bytes(BEFORE);
     let install = token(&key, 0x0C, 0x00, &before);
     let mut turned = install;
@@ -76,7 +67,7 @@ fn tokens_sign_a_command(rt: HostRuntime) -> Result<(), Fail> {
 
 /// The receipts of a command about two things, about three on a card with 20 bytes of unique data, and about one.
 fn receipts<K: BlockKey>(digits: &[u8]) -> Option<[ArrayVec<u8, 48>; 3]> {
-    let key: K = key_of(digits)?;
+    let key: K = key(digits)?;
     let file = Aid::new(b"\xd2\0\0\0\xaa")?;
     let domain = Aid::new(b"\xd1\0\0\0\x01")?;
     let long = Aid::new(b"\xa0\0\0\x01\x51\0\0\0\x01\x02\x03\x04\x05\x06\x07\x08")?;

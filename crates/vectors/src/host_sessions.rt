@@ -1,22 +1,17 @@
-//! Sessions with the static keys 40 to 4F, the host challenge 00 to 07 and the sequence counter 000000, at the Issuer
-//! Security Domain. All values were computed apart from this project, by a script over the CMAC and the AES of OpenSSL.
+//! The host side of SCP03, with the keys of `known_keys` and the sequence counter 000000.
 
-ghost use Rattle.std.specs.Prelude.{◌≡◌, ◌<◌, length};
+ghost use Rattle.std.specs.Prelude.{◌<◌};
 
 mod agreement;
 mod refusals;
 
+use crate::known_keys::{HOST, static_keys};
 use aes_block::{Aes128, BlockKey};
 use apdu_core::Command;
 use arrayvec::ArrayVec;
 use card_types::Level;
-use scp03_card::StaticKeys;
 use scp03_host::{HostSession, begin};
 use std::test::Fail;
-
-const KEY: [u8; 16] = *b"\x40\x41\x42\x43\x44\x45\x46\x47\x48\x49\x4a\x4b\x4c\x4d\x4e\x4f";
-
-const HOST: [u8; 8] = [0, 1, 2, 3, 4, 5, 6, 7];
 
 /// What the card answers to INITIALIZE UPDATE.
 const UPDATE: [u8; 32] =
@@ -32,25 +27,6 @@ const GET_DATA: Command<'static> = Command {
     le: None,
 };
 
-/// The levels, from C-MAC alone up to all.
-const LEVELS: [Level; 5] = [
-    Level::Mac,
-    Level::EncMac,
-    Level::MacR,
-    Level::EncMacR,
-    Level::Full,
-];
-
-fn keys<K: BlockKey>(key: &[u8]) -> StaticKeys<K>
-    requires { length key.now ≡ K.LEN }
-{
-    StaticKeys {
-        enc: K::from_key(key),
-        mac: K::from_key(key),
-        dek: K::from_key(key),
-    }
-}
-
 /// A session that is begun, with the EXTERNAL AUTHENTICATE that is sent.
 fn begin_session(
     level: Level,
@@ -59,7 +35,7 @@ fn begin_session(
 ) -> Result<HostSession<Aes128>, &'static str>
     requires { channel < 4 }
 {
-    begin(keys(&KEY), &HOST, &UPDATE, level, channel, out)
+    begin(static_keys(), &HOST, &UPDATE, level, channel, out)
         .ok()
         .ok_or("a session")
 }

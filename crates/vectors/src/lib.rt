@@ -7,8 +7,9 @@
 //! - `codes`: CMAC, derivation and CBC, by the published examples.
 //! - `data_objects`: BER-TLV elements, and the places of refusals.
 //! - `delegation`: tokens and receipts.
-//! - `desks`: a desk that signs tokens and judges receipts, and its lines.
+//! - `digits`: bytes and keys that hexadecimal digits write.
 //! - `host_sessions`: the host side of SCP03.
+//! - `known_keys`: the keys of sessions.
 //! - `streams`: sources, sinks and lines.
 //! - `transcripts`: sessions of SCP03 with every value in between, at both ends.
 #![tactic(auto)]
@@ -26,11 +27,11 @@ mod data_objects;
 #[cfg(test)]
 mod delegation;
 #[cfg(test)]
-mod desks;
-#[cfg(test)]
 mod digits;
 #[cfg(test)]
 mod host_sessions;
+#[cfg(test)]
+mod known_keys;
 #[cfg(test)]
 mod streams;
 #[cfg(test)]

@@ -8,15 +8,13 @@ ghost use Rattle.scp03_card.specs.Session as model;
 ghost use Rattle.scp03_host.specs.Agreement.{StandFor, told_field};
 ghost use Rattle.scp03_host.specs.Wrapped.{having_sent};
 
-use super::{HOST, LEVELS, keys};
+use crate::known_keys::{HOST, LEVELS, begun, offered, static_keys};
 use aes_block::{Aes128, Aes192, Aes256, BlockKey};
 use apdu_core::{Command, Status};
 use arrayvec::ArrayVec;
-use card_types::{Aid, Level};
-use scp03_card::{Offer, Session, offer};
+use card_types::Level;
+use scp03_card::{Offer, Session};
 use scp03_host::{HostSession, begin};
-
-const KEYS: [u8; 32] = *b"@ABCDEFGHIJKLMNOPQRSTUVWXYZ[\\]^_";
 
 // The host sends a command, and the card opens it: the first caller of the crate's documentation.
 fn deliver<K: BlockKey>(
@@ -90,34 +88,15 @@ fn update_reply<K: BlockKey>(offer: &Offer<K>) -> [u8; 32] {
     reply
 }
 
-fn offered<K: BlockKey>() -> Result<Offer<K>, &'static str> {
-    let aid = Aid::new(b"\xa0\0\0\x01\x51\0\0\0").ok_or("an AID")?;
-    Ok(offer::<K>(keys(&KEYS[..K::LEN]), 0x01fffe, &aid, &HOST))
-}
-
 /// The host side, with EXTERNAL AUTHENTICATE in `out`.
 fn begun_host<K: BlockKey>(
     level: Level,
     update: &[u8; 32],
     out: &mut ArrayVec<u8, 261>,
 ) -> Result<HostSession<K>, &'static str> {
-    begin(keys::<K>(&KEYS[..K::LEN]), &HOST, update, level, 0, out)
+    begin(static_keys(), &HOST, update, level, 0, out)
         .ok()
         .ok_or("the card's cryptogram")
-}
-
-/// The card side, after it.
-fn begun_card<K: BlockKey>(
-    level: Level,
-    offer: Offer<K>,
-    sent: &[u8],
-) -> Result<Session<K>, &'static str> {
-    let command = Command::read(sent).ok().ok_or("a command")?;
-    let body = command.body.try_into().ok().ok_or("a body")?;
-    offer
-        .authenticate(level, body)
-        .ok()
-        .ok_or("the host's answer")
 }
 
 /// A command with the first part of these bytes, and a reply with the rest.
@@ -154,10 +133,10 @@ fn exchange<K: BlockKey>(
 
 /// A session of as many commands as there are lengths of a data field, with a reply of each length.
 fn talk<K: BlockKey>(level: Level) -> Result<(), &'static str> {
-    let offer = offered::<K>()?;
+    let offer = offered::<K>(0x01fffe)?;
     let mut out = ArrayVec::new();
     let mut host = begun_host(level, &update_reply(&offer), &mut out)?;
-    let mut card = begun_card(level, offer, &out)?;
+    let mut card = begun(offer, level, &out)?;
     for len in 0..=239 {
         exchange(&mut host, &mut card, &[0x5a; 239], len)?;
     }

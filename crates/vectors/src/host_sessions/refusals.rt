@@ -1,7 +1,8 @@
 //! What the host refuses, and that nothing changes then.
 
-use super::{GET_DATA, HOST, KEY, LEVELS, UPDATE, begin_session, keys};
+use super::{GET_DATA, UPDATE, begin_session};
 use crate::digits::bytes;
+use crate::known_keys::{HOST, LEVELS, static_keys};
 use aes_block::Aes128;
 use apdu_core::{Command, Status};
 use arrayvec::ArrayVec;
@@ -9,63 +10,33 @@ use card_types::Level;
 use scp03_host::{BeginRefusal, HostSession, ReplyRefusal, begin};
 use std::test::Fail;
 
-/// Replies to GET DATA at level 33, one after the other, and what comes of each: the right one is taken after all that are
-/// refused.
-const AT_LEVEL_33: [(&[u8], Result<u16, ReplyRefusal>, &[u8]); 16] = [
-    (b"", Err(ReplyRefusal::Short), b""),
-    (b"90", Err(ReplyRefusal::Short), b""),
-    // No R-MAC.
-    (b"9000", Err(ReplyRefusal::Short), b""),
-    (b"6310", Err(ReplyRefusal::Short), b""),
-    (b"fd75588f5a63ef9000", Err(ReplyRefusal::Short), b""),
-    (b"c103000001c1030000019000", Err(ReplyRefusal::Mac), b""),
-    // One bit; another status; four bytes; under S-MAC.
-    (
-        b"fd75588f5a63ef6905c90d099f369ee91e85fc9247a98b7d9000",
-        Err(ReplyRefusal::Mac),
-        b"",
-    ),
-    (
-        b"fd75588f5a63ef6905c90d099f369ee91e85fc9247a98b7c6310",
-        Err(ReplyRefusal::Mac),
-        b"",
-    ),
-    (
-        b"fd75588f5a63ef6905c90d099f369ee91e85fc92000000009000",
-        Err(ReplyRefusal::Mac),
-        b"",
-    ),
-    (
-        b"fd75588f5a63ef6905c90d099f369ee9d8218fb6322263259000",
-        Err(ReplyRefusal::Mac),
-        b"",
-    ),
-    // No byte 80; fifteen bytes; a data field of no bytes, enciphered; an error with bytes before it.
-    (
-        b"45acb5d9f443ffde8029f893344b7de18675dac8738a47a79000",
-        Err(ReplyRefusal::Padding),
-        b"",
-    ),
-    (
-        b"0000000000000000000000000000007240e9b054457f1e9000",
-        Err(ReplyRefusal::Padding),
-        b"",
-    ),
-    (
-        b"6848e85278c71064b5807d9bb4cf4e37d488c3ef9b7e1ae49000",
-        Err(ReplyRefusal::Padding),
-        b"",
-    ),
-    (b"006a88", Err(ReplyRefusal::Padding), b""),
-    // A warning without data.
-    (b"26c25bafabf879376310", Ok(0x6310), b""),
-    // The sequence counters.
-    (
-        b"fd75588f5a63ef6905c90d099f369ee91e85fc9247a98b7c9000",
-        Ok(0x9000),
-        b"\xc1\x03\0\0\x01",
-    ),
+// Replies to GET DATA at level 33. The right ones are taken after all that are refused.
+
+/// No R-MAC.
+const SHORT: [&[u8]; 5] = [b"", b"90", b"9000", b"6310", b"fd75588f5a63ef9000"];
+
+/// A reply in plain; one bit; another status; four bytes; under S-MAC.
+const WITHOUT_MAC: [&[u8]; 5] = [
+    b"c103000001c1030000019000",
+    b"fd75588f5a63ef6905c90d099f369ee91e85fc9247a98b7d9000",
+    b"fd75588f5a63ef6905c90d099f369ee91e85fc9247a98b7c6310",
+    b"fd75588f5a63ef6905c90d099f369ee91e85fc92000000009000",
+    b"fd75588f5a63ef6905c90d099f369ee9d8218fb6322263259000",
 ];
+
+/// No byte 80; fifteen bytes; a data field of no bytes, enciphered; an error with bytes before it.
+const WITHOUT_PADDING: [&[u8]; 4] = [
+    b"45acb5d9f443ffde8029f893344b7de18675dac8738a47a79000",
+    b"0000000000000000000000000000007240e9b054457f1e9000",
+    b"6848e85278c71064b5807d9bb4cf4e37d488c3ef9b7e1ae49000",
+    b"006a88",
+];
+
+/// A warning without data.
+const WARNING: &[u8] = b"26c25bafabf879376310";
+
+/// The sequence counters.
+const COUNTERS: &[u8] = b"fd75588f5a63ef6905c90d099f369ee91e85fc9247a98b7c9000";
 
 #[test]
 fn offers(rt: HostRuntime) {
@@ -96,7 +67,7 @@ fn offers(rt: HostRuntime) {
 fn refused(reply: &[u8]) -> (Option<BeginRefusal>, bool) {
     let mut out = ArrayVec::new();
     let _fits = out.try_push(0x55);
-    let refused = begin::<Aes128>(keys(&KEY), &HOST, reply, Level::Mac, 0, &mut out).err();
+    let refused = begin::<Aes128>(static_keys(), &HOST, reply, Level::Mac, 0, &mut out).err();
     (refused, out.as_slice() == [0x55].as_slice())
 }
 
@@ -114,19 +85,29 @@ fn unwrapped(
     Some((status, field))
 }
 
+/// Whether each of these replies is refused for this reason, and leaves no data field.
+fn are_refused(session: &mut HostSession<Aes128>, replies: &[&[u8]], why: ReplyRefusal) -> bool {
+    for digits in replies {
+        let reply: ArrayVec<u8, 258> = bytes(digits);
+        if unwrapped(session, &reply) != Some((Err(why), ArrayVec::new())) {
+            return false;
+        }
+    }
+    true
+}
+
 #[test]
 fn replies_at_level_33(rt: HostRuntime) -> Result<(), Fail> {
     let mut out = ArrayVec::new();
     let mut session = begin_session(Level::Full, 0, &mut out)?;
     assert!(rt; session.wrap(&GET_DATA, 0, &mut out) == Ok(()));
-    for (digits, expected, wanted) in AT_LEVEL_33 {
-        let reply: ArrayVec<u8, 300> = bytes(digits);
-        let (status, field) = unwrapped(&mut session, &reply).ok_or("a reply")?;
-        assert!(rt;
-            (status, field.as_slice()) == (expected.map(Status), wanted),
-            "{digits:?}"
-        );
-    }
+    assert!(rt; are_refused(&mut session, &SHORT, ReplyRefusal::Short));
+    assert!(rt; are_refused(&mut session, &WITHOUT_MAC, ReplyRefusal::Mac));
+    assert!(rt; are_refused(&mut session, &WITHOUT_PADDING, ReplyRefusal::Padding));
+    let warning = unwrapped(&mut session, &bytes::<258>(WARNING));
+    assert!(rt; warning == Some((Ok(Status(0x6310)), ArrayVec::new())));
+    let counters = unwrapped(&mut session, &bytes::<258>(COUNTERS));
+    assert!(rt; counters == Some((Ok(Status(0x9000)), bytes(b"c103000001"))));
     Ok(())
 }
 
