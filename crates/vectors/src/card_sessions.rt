@@ -10,6 +10,7 @@ ghost use Rattle.scp03_card.specs.Session as model;
 
 use crate::digits::bytes;
 use crate::known_keys::offered;
+use crate::told::{Told, told};
 use aes_block::{Aes128, Aes192, Aes256, BlockKey};
 use apdu_core::{Command, Status};
 use arrayvec::ArrayVec;
@@ -26,12 +27,6 @@ const HOST_FULL: u128 = 0x76857f0738ab1422_cc3a9195e19f90a3;
 /// The first command at level 33: GET DATA of the sequence counter.
 const GET_DATA: &[u8] = b"84ca00c10839888bfe9333e491";
 
-type Told = Result<(), &'static str>;
-
-fn told(holds: bool, what: &'static str) -> Told {
-    if holds { Ok(()) } else { Err(what) }
-}
-
 /// A session that the host has begun, and the values of the card before: `card` is the challenge and
 /// the cryptogram, `host` the body of EXTERNAL AUTHENTICATE.
 fn begin_session<K: BlockKey>(
@@ -39,7 +34,7 @@ fn begin_session<K: BlockKey>(
     card: (u64, u64),
     level: Level,
     host: u128,
-) -> Result<Session<K>, &'static str>
+) -> Told<Session<K>>
     requires { counter ≤ 0xFFFFFF }
 {
     let offer = offered::<K>(counter)?;
@@ -75,7 +70,7 @@ fn exchange<K: BlockKey>(
     plain: &[u8],
     data: &[u8],
     status: u16,
-) -> Told {
+) -> Told<()> {
     let mut buffer = [0; 255];
     let opened = open(session, sent, &mut buffer).ok_or("a command")?;
     let count = opened.ok().ok_or("opens")?;
@@ -110,7 +105,7 @@ fn answered<K: BlockKey>(
 }
 
 /// What comes of GET DATA with a reply of five bytes, and the reply.
-fn get_data() -> Result<(Result<usize, OpenRefusal>, ArrayVec<u8, 258>), &'static str> {
+fn get_data() -> Told<(Result<usize, OpenRefusal>, ArrayVec<u8, 258>)> {
     let mut session = begin_session::<Aes128>(0, CARD, Level::Full, HOST_FULL)?;
     let sent = bytes::<258>(GET_DATA);
     let command = Command::read(&sent).ok().ok_or("a command")?;
@@ -149,7 +144,7 @@ fn longer_keys(rt: HostRuntime) {
 }
 
 // The sequence counter is 01FFFE.
-fn longer<K: BlockKey>(card: (u64, u64), host: u128, sent: &[u8], answer: &[u8]) -> Told {
+fn longer<K: BlockKey>(card: (u64, u64), host: u128, sent: &[u8], answer: &[u8]) -> Told<()> {
     let mut session = begin_session::<K>(0x01fffe, card, Level::Full, host)?;
     exchange(&mut session, sent, answer, b"010203", b"05", 0x9000)
 }

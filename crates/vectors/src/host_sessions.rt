@@ -6,6 +6,7 @@ mod agreement;
 mod refusals;
 
 use crate::known_keys::{HOST, static_keys};
+use crate::told::Told;
 use aes_block::{Aes128, BlockKey};
 use apdu_core::Command;
 use arrayvec::ArrayVec;
@@ -32,7 +33,7 @@ fn begin_session(
     level: Level,
     channel: u8,
     out: &mut ArrayVec<u8, 261>,
-) -> Result<HostSession<Aes128>, &'static str>
+) -> Told<HostSession<Aes128>>
     requires { channel < 4 }
 {
     begin(static_keys(), &HOST, &UPDATE, level, channel, out)

@@ -4,6 +4,7 @@
 
 ghost use Rattle.std.specs.Prelude.{◌≤◌};
 
+use crate::told::Told;
 use aes_block::BlockKey;
 use apdu_core::Command;
 use card_types::{Aid, Level};
@@ -43,7 +44,7 @@ pub fn static_keys<K: BlockKey>() -> StaticKeys<K> {
 }
 
 /// What the card offers at this sequence counter.
-pub fn offered<K: BlockKey>(counter: u32) -> Result<Offer<K>, &'static str>
+pub fn offered<K: BlockKey>(counter: u32) -> Told<Offer<K>>
     requires { counter ≤ 0xFFFFFF }
 {
     let aid = Aid::new(&AID).ok_or("an AID")?;
@@ -51,11 +52,7 @@ pub fn offered<K: BlockKey>(counter: u32) -> Result<Offer<K>, &'static str>
 }
 
 /// The session that the card has begun, after the EXTERNAL AUTHENTICATE that was sent.
-pub fn begun<K: BlockKey>(
-    offer: Offer<K>,
-    level: Level,
-    sent: &[u8],
-) -> Result<Session<K>, &'static str> {
+pub fn begun<K: BlockKey>(offer: Offer<K>, level: Level, sent: &[u8]) -> Told<Session<K>> {
     let command = Command::read(sent).ok().ok_or("a command")?;
     let body = command.body.try_into().ok().ok_or("a body")?;
     offer

@@ -11,6 +11,7 @@
 //! - `host_sessions`: the host side of SCP03.
 //! - `known_keys`: the keys of sessions.
 //! - `streams`: sources, sinks and lines.
+//! - `told`: what is found wrong, in a word.
 //! - `transcripts`: sessions of SCP03 with every value in between, at both ends.
 #![tactic(auto)]
 
@@ -34,5 +35,7 @@ mod host_sessions;
 mod known_keys;
 #[cfg(test)]
 mod streams;
+#[cfg(test)]
+mod told;
 #[cfg(test)]
 mod transcripts;

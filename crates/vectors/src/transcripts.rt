@@ -14,6 +14,7 @@ mod table;
 mod values;
 
 use crate::known_keys::{HOST, LEVELS, begun, offered, static_keys};
+use crate::told::{Told, told};
 use aes_block::{Aes128, Aes192, Aes256, BlockKey};
 use apdu_core::Command;
 use arrayvec::ArrayVec;
@@ -25,7 +26,7 @@ use plain::{COMMANDS, PLAIN, Plain};
 use scp03_card::Session;
 use scp03_host::{HostSession, begin};
 use table::Table;
-use values::{Told, Values, derivations, told};
+use values::{Values, derivations};
 
 /// Whether a block of zeros, enciphered by this key, is this.
 fn enciphers_zeros_to<K: BlockKey>(key: &K, wanted: &[u8]) -> bool {

@@ -9,6 +9,7 @@ ghost use Rattle.scp03_host.specs.Agreement.{StandFor, told_field};
 ghost use Rattle.scp03_host.specs.Wrapped.{having_sent};
 
 use crate::known_keys::{HOST, LEVELS, begun, offered, static_keys};
+use crate::told::Told;
 use aes_block::{Aes128, Aes192, Aes256, BlockKey};
 use apdu_core::{Command, Status};
 use arrayvec::ArrayVec;
@@ -93,7 +94,7 @@ fn begun_host<K: BlockKey>(
     level: Level,
     update: &[u8; 32],
     out: &mut ArrayVec<u8, 261>,
-) -> Result<HostSession<K>, &'static str> {
+) -> Told<HostSession<K>> {
     begin(static_keys(), &HOST, update, level, 0, out)
         .ok()
         .ok_or("the card's cryptogram")
@@ -105,7 +106,7 @@ fn exchange<K: BlockKey>(
     card: &mut Session<K>,
     bytes: &[u8; 239],
     len: u8,
-) -> Result<(), &'static str>
+) -> Told<()>
     requires { len ≤ 239 }
 {
     let sent = &bytes[..usize::from(len)];
@@ -132,7 +133,7 @@ fn exchange<K: BlockKey>(
 }
 
 /// A session of as many commands as there are lengths of a data field, with a reply of each length.
-fn talk<K: BlockKey>(level: Level) -> Result<(), &'static str> {
+fn talk<K: BlockKey>(level: Level) -> Told<()> {
     let offer = offered::<K>(0x01fffe)?;
     let mut out = ArrayVec::new();
     let mut host = begun_host(level, &update_reply(&offer), &mut out)?;

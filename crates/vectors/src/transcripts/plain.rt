@@ -1,7 +1,7 @@
 //! The commands of each session, in plain.
 
+use crate::told::Told;
 use crate::transcripts::table::{Bytes, Table};
-use crate::transcripts::values::Told;
 use apdu_core::Status;
 
 /// The channel, the command, the data field of its reply, and the status word: GET DATA, without a data field; GET STATUS on

@@ -1,7 +1,7 @@
 //! The lines of a text, each of them bytes in digits.
 
 use crate::digits::bytes;
-use crate::transcripts::values::Told;
+use crate::told::Told;
 use arrayvec::ArrayVec;
 use io_edge::{Lines, SliceSource};
 

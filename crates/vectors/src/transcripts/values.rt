@@ -3,15 +3,10 @@
 ghost use Rattle.std.specs.Prelude.{◌<◌, ◌≤◌, length};
 
 use crate::known_keys::{AID, HOST, static_key};
+use crate::told::{Told, told};
 use crate::transcripts::table::{Bytes, Table};
 use aes_block::BlockKey;
 use cmac_kdf::derive;
-
-pub type Told<T> = Result<T, &'static str>;
-
-pub fn told(holds: bool, what: &'static str) -> Told<()> {
-    if holds { Ok(()) } else { Err(what) }
-}
 
 /// The first lines of a table.
 #[derive(Drop)]
