@@ -39,7 +39,7 @@ pub struct Plain {
 }
 
 impl Plain {
-    pub fn read(table: &mut Table<'_>) -> Told<Plain> {
+    pub(super) fn read(table: &mut Table<'_>) -> Told<Plain> {
         let channel = *table.next()?.first().ok_or("a channel")?;
         let command = table.next()?;
         let field = table.next()?;

@@ -16,14 +16,14 @@ pub struct Table<'a> {
 }
 
 impl<'a> Table<'a> {
-    pub fn new(text: &'a [u8]) -> Table<'a> {
+    pub(super) fn new(text: &'a [u8]) -> Table<'a> {
         Table {
             source: SliceSource::new(text),
             lines: Lines::new(),
         }
     }
 
-    pub fn next(&mut self) -> Told<Bytes> {
+    pub(super) fn next(&mut self) -> Told<Bytes> {
         match self.lines.next_line(&mut self.source) {
             Ok(line) => Ok(bytes(line.text)),
             Err(_) => Err("a line of the table"),

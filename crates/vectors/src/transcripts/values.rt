@@ -23,7 +23,7 @@ pub struct Values {
 }
 
 impl Values {
-    pub fn read(table: &mut Table<'_>) -> Told<Values> {
+    pub(super) fn read(table: &mut Table<'_>) -> Told<Values> {
         Ok(Values {
             zeros: table.next()?,
             update: table.next()?,
