@@ -1,7 +1,7 @@
 -- The forms of DELETE: the first byte of the data field tells which one takes a command.
 use Rattle.std.proofs.Common.{◌≡◌, inl, inr, ℕ, List, [], ◌∷◌, ◌++◌, Option, None, Some, ap, sym, subst, ◌∙◌, arith, append_assoc}
 use Rattle.policy_machine.specs.Prelude.{AsksToDelete, AsksToDeleteKey, Chooses, DeletionAsked, FormRefuses, IsMalformed, KeyChosen, TagBytes, TagGoesOn, command_form, managed_delete_key, managed_delete_object}
-use Rattle.policy_machine.proofs.InstallForms.{AreApart}
+use Rattle.policy_machine.proofs.FormLaws.{AreApart}
 use Rattle.policy_machine.specs.declared.rule.Rule.{Rule}
 
 -- a data field that begins with this tag has another first byte

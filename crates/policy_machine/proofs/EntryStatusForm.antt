@@ -1,10 +1,11 @@
 -- SET STATUS of an entry: what the laws over all commands need of the form.
-use Rattle.std.proofs.Common.{◌⊎◌, ap, inl, inr, refl}
+use Rattle.std.proofs.Common.{[], ◌∷◌, ◌⊎◌, ap, arith, inl, inr, refl, sym}
 use Rattle.policy_machine.specs.Prelude.{OneIsSet, PersonalizesItself, Registry, SettingStatusFails, TreeIsSet, changing, command_form, managed_entry_status, same_aid}
 use Rattle.policy_machine.specs.declared.entry_status.RuleSS.{RuleSS}
 use Rattle.policy_machine.specs.declared.entry_status.RuleSS.TheVariants.{SS3}
 use Rattle.policy_machine.proofs.Alike.{IsAlikeForm, LooksAtSeen, unchanged}
 use Rattle.policy_machine.proofs.AlikeManaged.{looking_alike, nobody_alike}
+use Rattle.policy_machine.proofs.ByP1.{TakesP1}
 use Rattle.policy_machine.proofs.EntryStatusLaws.{managed_entry_status_lawful}
 use Rattle.policy_machine.proofs.EntryStatusSpares.{entry_status_sparing}
 use Rattle.policy_machine.proofs.FormLaws.{FormLaws, managed_laws}
@@ -41,3 +42,6 @@ entry_status_numbers admitted asked changed passed set = by set
 
 pub entry_status_laws : FormLaws (command_form managed_entry_status)
 entry_status_laws = managed_laws managed_entry_status managed_entry_status_lawful (among changing 0xF0 refl) entry_status_numbers entry_status_sparing (inl entry_status_alike)
+
+pub entry_status_p1 : TakesP1 (0x40 ∷ 0x60 ∷ []) (command_form managed_entry_status)
+entry_status_p1 = record { of = λ p1 p2 takes. elim takes [ inl one ↦ (0, omega arith, sym one) | inr all ↦ (1, omega arith, sym all) ] }

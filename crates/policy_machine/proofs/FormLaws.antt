@@ -1,7 +1,7 @@
 -- What is shown of the form of a command, from which the laws over all commands follow.
 use Rattle.std.proofs.Common.{◌≡◌, ◌⊎◌, ℕ, List}
 use Rattle.std.specs.Prelude.{Contains}
-use Rattle.policy_machine.specs.Prelude.{Admitted, CommandForm, Effect, IsSameButCounters, ManagedForm, changing, command_form, managing}
+use Rattle.policy_machine.specs.Prelude.{Admitted, CommandForm, Effect, IsSameButCounters, ManagedForm, OneOf, Takes, changing, command_form, managing}
 use Rattle.policy_machine.specs.declared.instruction.TheConstants.{EXTERNAL_AUTHENTICATE, PUT_KEY}
 use Rattle.policy_machine.proofs.Alike.{IsAlikeForm}
 use Rattle.policy_machine.proofs.ChangingBytes.{manages}
@@ -13,6 +13,10 @@ use Rattle.policy_machine.proofs.SparingForms.{IsManagedSparing, IsSparing, mana
 -- what its own rules look at is so of commands that are alike, or it is one of the two that are judged by keys and cryptograms
 abbrev pub LooksAlike : CommandForm → Type 0
 LooksAlike form = IsAlikeForm form ⊎ (form.instruction ≡ PUT_KEY) ⊎ (form.instruction ≡ EXTERNAL_AUTHENTICATE)
+
+-- none of the forms takes a command that this one takes
+abbrev pub AreApart : CommandForm → List CommandForm → Type 0
+AreApart form forms = (ins p1 p2 : ℕ) (body : List ℕ) → Takes form ins p1 p2 body → OneOf (λ other. Takes other ins p1 p2 body) forms → ⊥
 
 pub record FormLaws (form : CommandForm) : Type 0 where
   pub lawful : IsLawful form

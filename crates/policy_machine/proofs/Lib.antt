@@ -5,6 +5,7 @@ pub mod AnsweredKeeps
 pub mod AnsweredRises
 pub mod AnsweredSpares
 pub mod Approved
+pub mod ByP1
 pub mod CardStatusForm
 pub mod CardStatusLaws
 pub mod CardStatusSpares
@@ -51,7 +52,6 @@ pub mod InstallApplicationAsking
 pub mod InstallApplicationForm
 pub mod InstallApplicationLaws
 pub mod InstallApplicationSpares
-pub mod InstallForms
 pub mod InstallLoadForm
 pub mod InstallLoadLaws
 pub mod Instructed
@@ -102,7 +102,6 @@ pub mod SecureChannelSet
 pub mod SelectForm
 pub mod SelectLaws
 pub mod SetChannel
-pub mod SetStatusForms
 pub mod SparingForms
 pub mod StoreDataElements
 pub mod StoreDataForm

@@ -1,10 +1,11 @@
 -- INSTALL [for make selectable]: what the laws over all commands need of the form.
-use Rattle.std.proofs.Common.{ap, false, inl, refl}
+use Rattle.std.proofs.Common.{[], ◌∷◌, ap, arith, false, inl, refl, sym}
 use Rattle.policy_machine.specs.Prelude.{Registry, changing, command_form, managed_selectable, same_aid}
 use Rattle.card_types.specs.declared.life.Life.TheVariants.{Selectable}
 use Rattle.policy_machine.specs.declared.make_selectable.RuleMS.TheVariants.{MS1}
 use Rattle.policy_machine.proofs.Alike.{IsAlikeForm, unchanged}
 use Rattle.policy_machine.proofs.AlikeManaged.{held_alike, looking_alike}
+use Rattle.policy_machine.proofs.ByP1.{TakesP1}
 use Rattle.policy_machine.proofs.FormLaws.{FormLaws, managed_laws}
 use Rattle.policy_machine.proofs.Instructed.{among}
 use Rattle.policy_machine.proofs.MakeSelectableLaws.{managed_selectable_lawful}
@@ -22,3 +23,6 @@ selectable_numbers admitted given changed passed becomes =
 
 pub selectable_laws : FormLaws (command_form managed_selectable)
 selectable_laws = managed_laws managed_selectable managed_selectable_lawful (among changing 0xE6 refl) selectable_numbers selectable_sparing (inl selectable_alike)
+
+pub selectable_p1 : TakesP1 (0x08 ∷ []) (command_form managed_selectable)
+selectable_p1 = record { of = λ p1 p2 takes. (0, omega arith, sym takes.0) }
