@@ -1,7 +1,7 @@
 -- The laws of EXTERNAL AUTHENTICATE.
-use Rattle.std.proofs.Common.{◌≡◌, ℕ, refl, sym, ap, subst, ◌∙◌}
+use Rattle.std.proofs.Common.{◌≡◌, ℕ, refl, sym, subst, ◌∙◌}
 use Rattle.std.specs.Prelude.{◌==◌, if◌then◌else◌}
-use Rattle.policy_machine.specs.Prelude.{Admitted, Effect, ExternalAuthenticateEffect, ExternalAuthenticateFails, Fits, FormFails, HasCryptogram, HasMac, IsFirst, IsSound, Judges, Offer, Secured, TakesCommand, Volatile, code_of, external_authenticate, external_authenticate_rules, offer_on, rules_before_form, session_from, with_secure_channel}
+use Rattle.policy_machine.specs.Prelude.{Admitted, Effect, ExternalAuthenticateEffect, ExternalAuthenticateFails, Fits, FormFails, HasCryptogram, HasMac, IsFirst, IsSound, Judges, Offer, Secured, TakesCommand, code_of, external_authenticate, external_authenticate_rules, offer_on, rules_before_form, session_from, with_secure_channel}
 use Rattle.policy_machine.proofs.SecureChannelSet.{offer_stands, secured_fits}
 use Rattle.card_types.proofs.OneOfCode.{level_by_code}
 use Rattle.card_types.specs.declared.level.Level.{Level}
@@ -39,7 +39,6 @@ external_authenticate_lawful = record {
   one = external_authenticate_one;
   quiet = λ unmanaged admitted done does. same_as admitted.at.registry done.state.registry does.registry;
   without_place = λ other admitted done none does. place_leaves_secure_channel admitted.at.volatile done.state.volatile admitted.channel _ does.volatile none;
-  loads_stay = λ admitted done takes other does. inl (ap (λ (v : Volatile). v.load) does.volatile);
 }
 
 -- that there is an offer stands before the rules on the form, of this command alone

@@ -50,7 +50,6 @@ get_data_lawful = record {
   quiet = λ unmanaged admitted done does. same_as admitted.at.registry done.state.registry (ap (λ (s : State). s.registry) does.state);
   without_place = λ other admitted done none does.
       placeless_same admitted.at.volatile done.state.volatile admitted.channel (ap (λ (s : State). s.volatile) does.state) none;
-  loads_stay = λ admitted done takes other does. inl (ap (λ (s : State). s.volatile.load) does.state);
 }
 
 -- how it is judged, by what was found

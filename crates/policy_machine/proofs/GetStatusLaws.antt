@@ -1,8 +1,8 @@
 -- The laws of GET STATUS.
-use Rattle.std.proofs.Common.{ap, ◌≡◌, ℕ, ◌<◌, List, [], ◌∷◌, ◌++◌, Some, refl, sym, subst, ◌∙◌, arith, inl}
+use Rattle.std.proofs.Common.{◌≡◌, ℕ, ◌<◌, List, [], ◌∷◌, ◌++◌, Some, refl, sym, subst, ◌∙◌, arith}
 use Rattle.policy_machine.specs.Prelude.{Admitted, AreTemplates, Effect, Fits, GetStatusEffect, IsFullFor, IsLeftAt, IsSound, Place, Registry, Thing, Volatile, channel_at_place, get_status, with_place}
 use Rattle.policy_machine.specs.declared.channels.TheConstants.{CHANNELS}
-use Rattle.policy_machine.proofs.Lawful.{IsLawful, IsReady, same_as, sound_with, LoadStays}
+use Rattle.policy_machine.proofs.Lawful.{IsLawful, IsReady, same_as, sound_with}
 use Rattle.policy_machine.proofs.SameEffect.{effect_same, state_same}
 use Rattle.policy_machine.proofs.SecureChannelSet.{within}
 use Rattle.policy_machine.proofs.SetChannel.{becomes_fits}
@@ -33,11 +33,6 @@ left_one : (admitted : Admitted) (a b : Effect) (shown left : List Thing) → Is
 left_one admitted a b shown [] one other = (one.0 ∙ sym other.0, one.1 ∙ sym other.1)
 left_one admitted a b shown (next ∷ left) one other = (one.0 ∙ sym other.0, one.1 ∙ sym other.1)
 
--- a place is all that GET STATUS sets
-left_loads : (admitted : Admitted) (done : Effect) (shown left : List Thing) → IsLeftAt admitted done shown left → LoadStays admitted.at.volatile done.state.volatile
-left_loads admitted done shown [] at = inl (ap (λ (v : Volatile). v.load) at.0)
-left_loads admitted done shown (next ∷ left) at = inl (ap (λ (v : Volatile). v.load) at.0)
-
 full_from_first : (registry : Registry) (p1 : ℕ) (left : List Thing) (bytes : List ℕ) → IsFullFor registry p1 left bytes → IsFullAfter registry p1 0 left bytes
 full_from_first registry p1 [] bytes full = tt
 full_from_first registry p1 (next ∷ left) bytes (template, is, above) = (template, is, omega (arith, above))
@@ -63,5 +58,4 @@ get_status_lawful = record {
   one = listing_one;
   quiet = λ unmanaged admitted done does. same_as admitted.at.registry done.state.registry does.registry;
   without_place = λ other admitted done none does. absurd (other refl);
-  loads_stay = λ admitted done takes other does. left_loads admitted done does.shown does.left does.left_at;
 }

@@ -1,7 +1,7 @@
 -- The laws of INITIALIZE UPDATE.
 use Rattle.std.proofs.Common.{◌≡◌, ◌≢◌, ℕ, List, [], ◌∷◌, false, None, refl, sym, ap, subst, ◌∙◌, arith, Option, inl}
 use Rattle.std.specs.Prelude.{◌==◌, map}
-use Rattle.policy_machine.specs.Prelude.{Admitted, AsksForSet, Counter, Effect, InitializeUpdateEffect, InitializeUpdateFails, IsFirst, IsOfferOf, IsSameButCounters, IsSound, Judges, JudgesAs, Offer, TakesCommand, UsesSet, Volatile, acting, initialize_update, offer_body, offer_rules, raised_counter, set_counter, with_counter_raised, with_secure_channel, without_number}
+use Rattle.policy_machine.specs.Prelude.{Admitted, AsksForSet, Counter, Effect, InitializeUpdateEffect, InitializeUpdateFails, IsFirst, IsOfferOf, IsSameButCounters, IsSound, Judges, JudgesAs, Offer, TakesCommand, UsesSet, acting, initialize_update, offer_body, offer_rules, raised_counter, set_counter, with_counter_raised, with_secure_channel, without_number}
 use Rattle.card_types.specs.declared.limits.TheConstants.{COUNTER_LIMIT}
 use Rattle.policy_machine.specs.State.{Offered}
 use Rattle.policy_machine.specs.declared.initialize_update.RuleIU.TheVariants.{IU3}
@@ -97,7 +97,6 @@ initialize_update_lawful = record {
   one = initialize_update_one;
   quiet = λ unmanaged. counters_raised;
   without_place = λ other admitted done none does. place_leaves_secure_channel admitted.at.volatile done.state.volatile admitted.channel _ does.volatile none;
-  loads_stay = λ admitted done takes other does. inl (ap (λ (v : Volatile). v.load) does.volatile);
 }
 
 pub offer_judged : (admitted : Admitted) (found : Option Rule) → TakesCommand initialize_update admitted.command → IsFirst (InitializeUpdateFails admitted) offer_rules found → Judges admitted found

@@ -91,5 +91,4 @@ install_load_lawful among = record {
   one = install_load_one;
   quiet = λ unmanaged. absurd (unmanaged among);
   without_place = λ other admitted done none does. subst (λ (v : Volatile). HasNoPlaceOn v admitted.channel) (sym does.volatile) none;
-  loads_stay = λ admitted done takes other does. absurd (other (inr (takes.0, takes.1.0)));
 }

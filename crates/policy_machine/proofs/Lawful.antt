@@ -1,9 +1,9 @@
 -- What is asked of a command.
-use Rattle.std.proofs.Common.{◌≡◌, ◌≢◌, ◌⊎◌, ℕ, ◌<◌, ◌≤◌, false, Option, None, Some, refl, sym, ap, subst, ◌∙◌, inl, inr, arith}
+use Rattle.std.proofs.Common.{◌≡◌, ◌≢◌, ℕ, ◌<◌, ◌≤◌, false, Option, None, Some, refl, sym, ap, subst, ◌∙◌, inl, inr, arith}
 use Rattle.std.specs.Prelude.{◌==◌, Contains, IsSome, MatchOption}
-use Rattle.policy_machine.specs.Prelude.{Admitted, Apdu, Channel, CommandForm, Effect, Fits, IsAscending, IsDomainNamed, IsOfCard, IsSameButCounters, IsSound, JudgesAs, LoadSession, Registry, SecureChannel, State, TakesCommand, Volatile, Well, acting, channel_at, channel_with, load_without_channel, managing, place_in, with_channel, with_secure_channel}
+use Rattle.policy_machine.specs.Prelude.{Admitted, Channel, CommandForm, Effect, Fits, IsAscending, IsDomainNamed, IsOfCard, IsSameButCounters, IsSound, JudgesAs, Registry, SecureChannel, State, Volatile, Well, acting, channel_at, channel_with, load_without_channel, managing, place_in, with_channel, with_secure_channel}
 use Rattle.policy_machine.specs.declared.channels.TheConstants.{CHANNELS}
-use Rattle.policy_machine.specs.declared.instruction.TheConstants.{GET_STATUS, INSTALL, LOAD, MANAGE_CHANNEL, SELECT}
+use Rattle.policy_machine.specs.declared.instruction.TheConstants.{GET_STATUS, LOAD, MANAGE_CHANNEL, SELECT}
 use Rattle.std.proofs.lemmas.Bool.Decides.{eqb_tells}
 use Rattle.policy_machine.proofs.SetChannel.{HasSession, set_other, set_there}
 
@@ -19,16 +19,8 @@ pub record IsReady (admitted : Admitted) : Type 0 where
 abbrev pub HasNoPlaceOn : Volatile → ℕ → Type 0
 HasNoPlaceOn volatile number = place_in (channel_at volatile number) ≡ None
 
--- the command begins a load session, or goes on with one: INSTALL [for load] and LOAD
-abbrev pub IsLoading : Apdu → Type 0
-IsLoading command = (command.ins ≡ LOAD) ⊎ ((command.ins ≡ INSTALL) × (command.p1 ≡ 0x02))
-
--- the load session is as it was, or there is none
-abbrev pub LoadStays : Volatile → Volatile → Type 0
-LoadStays before after = (after.load ≡ before.load) ⊎ (after.load ≡ None)
-
 -- It leaves a card sound, it does one thing, without secure messaging it changes no more than the numbers of sequence counters,
--- unless it is GET STATUS it sets no place in a listing on its channel, and unless it loads it leaves the load session or ends it.
+-- and unless it is GET STATUS it sets no place in a listing on its channel.
 pub record IsLawful (form : CommandForm) : Type 0 where
   pub keeps : (admitted : Admitted) (done : Effect) → IsReady admitted → JudgesAs form admitted None → form.does admitted done → IsSound done.state
   pub one : (admitted : Admitted) (a b : Effect) → form.does admitted a → form.does admitted b → a ≡ b
@@ -36,8 +28,6 @@ pub record IsLawful (form : CommandForm) : Type 0 where
       → IsSameButCounters admitted.at.registry done.state.registry
   pub without_place : form.instruction ≢ GET_STATUS → (admitted : Admitted) (done : Effect) → HasNoPlaceOn admitted.at.volatile admitted.channel → form.does admitted done
       → HasNoPlaceOn done.state.volatile admitted.channel
-  pub loads_stay : (admitted : Admitted) (done : Effect) → TakesCommand form admitted.command → (IsLoading admitted.command → ⊥) → form.does admitted done
-      → LoadStays admitted.at.volatile done.state.volatile
 
 -- its registry is one that a card may have
 pub sound_of_card : {state : State} → IsSound state → IsOfCard state.registry
@@ -100,18 +90,3 @@ none_of (Some x) without = absurd (without refl)
 pub found_so : {A : Type 0} (holds : A → Type 0) (o : Option A) → MatchOption o ⊥ holds → (x : A) × (o ≡ Some x) × holds x
 found_so holds None is = absurd is
 found_so holds (Some x) is = (x, refl, is)
-
--- an equal volatile state has the same load session
-pub load_same : (before after : Volatile) → after ≡ before → LoadStays before after
-load_same before after same = inl (ap (λ (v : Volatile). v.load) same)
-
--- that of a channel has ended
-pub load_ended : (before after : Volatile) (number : ℕ) → after.load ≡ load_without_channel number before.load → LoadStays before after
-load_ended before after number ends = by before.load refl
-  where
-    by : (load : Option LoadSession) → before.load ≡ load → LoadStays before after
-    by None at = inr (ends ∙ ap (load_without_channel number) at)
-    by (Some load) at = elim (eqb_tells load.channel number) [
-      | inl same ↦ inr (ends ∙ ap (load_without_channel number) at ∙ rw same.0 refl)
-      | inr differs ↦ inl (ends ∙ ap (load_without_channel number) at ∙ rw differs.0 (sym at))
-    ]

@@ -68,7 +68,6 @@ pub mod LoadLaws
 pub mod LoadOfChannel
 pub mod LoadRises
 pub mod LoadSpares
-pub mod LoadsLeft
 pub mod MakeSelectableForm
 pub mod MakeSelectableLaws
 pub mod MakeSelectableSpares

@@ -199,5 +199,4 @@ load_lawful managed = record {
     | inl goes ↦ placeless_same (record admitted.at.volatile { load = Some (with_block does.load does.size does.bytes) }) done.state.volatile admitted.channel goes.volatile none
     | inr ends ↦ placeless_same (without_load admitted.at.volatile admitted.channel) done.state.volatile admitted.channel ends.volatile none
   ];
-  loads_stay = λ admitted done takes other does. absurd (other (inl takes.0));
 }

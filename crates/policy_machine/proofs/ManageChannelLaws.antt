@@ -5,7 +5,7 @@ use Rattle.card_types.specs.declared.factory.TheConstants.{ISSUER}
 use Rattle.policy_machine.specs.Prelude.{Admitted, Channel, Effect, IsClosed, IsClosedAlready, IsOpened, IsSameButCounters, IsSound, Judges, ManageChannelEffect, ManageChannelParameters, TakesCommand, channel_at, fresh, lowest_closed, manage_channel}
 use Rattle.policy_machine.proofs.SetChannel.{IsInSession, ended_fits, lowest_is_closed, set_fits}
 use Rattle.policy_machine.proofs.SecureChannelSet.{within}
-use Rattle.policy_machine.proofs.Lawful.{HasNoPlaceOn, IsLawful, LoadStays, found_so, load_ended, placeless_set, same_as, sound_with}
+use Rattle.policy_machine.proofs.Lawful.{HasNoPlaceOn, IsLawful, found_so, placeless_set, same_as, sound_with}
 use Rattle.policy_machine.proofs.FreshChannel.{issuer_is_well}
 use Rattle.policy_machine.proofs.Judging.{judged}
 use Rattle.policy_machine.specs.declared.channels.TheConstants.{CHANNELS}
@@ -84,19 +84,12 @@ channel_placeless admitted done none (inr (closes, inr does)) =
     subst (λ (e : Effect). HasNoPlaceOn e.state.volatile admitted.channel) (sym does)
     (placeless_set admitted.at.volatile admitted.command.p2 admitted.channel None refl none)
 
-channel_loads : (admitted : Admitted) (done : Effect) → Manages admitted done → LoadStays admitted.at.volatile done.state.volatile
-channel_loads admitted done (inl (number, is, does)) = inl (ap (λ (e : Effect). e.state.volatile.load) does)
-channel_loads admitted done (inr (closes, inl does)) = inl (ap (λ (e : Effect). e.state.volatile.load) does)
-channel_loads admitted done (inr (closes, inr does)) =
-    load_ended admitted.at.volatile done.state.volatile admitted.command.p2 (ap (λ (e : Effect). e.state.volatile.load) does)
-
 pub manage_channel_lawful : IsLawful manage_channel
 manage_channel_lawful = record {
   keeps = λ admitted done ready judges does. manage_channel_keeps admitted done ready.sound judges.0.1 (manages admitted done does);
   one = manage_channel_one;
   quiet = λ unmanaged admitted done does. channel_same admitted done (manages admitted done does);
   without_place = λ other admitted done none does. channel_placeless admitted done none (manages admitted done does);
-  loads_stay = λ admitted done takes other does. channel_loads admitted done (manages admitted done does);
 }
 
 -- how it is judged, by what was found

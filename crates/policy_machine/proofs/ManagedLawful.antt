@@ -7,7 +7,7 @@ use Rattle.policy_machine.specs.declared.delegation.RuleRC.TheVariants.{RC1}
 use Rattle.policy_machine.specs.declared.rule.Rule.TheVariants.{RC}
 use Rattle.policy_machine.proofs.AnsweredKeeps.{answered_fits, answered_keeps, answered_once}
 use Rattle.policy_machine.proofs.Instructed.{each_byte}
-use Rattle.policy_machine.proofs.Lawful.{IsLawful, IsReady, fits_as, load_same, managed_apart, placeless_same}
+use Rattle.policy_machine.proofs.Lawful.{IsLawful, IsReady, fits_as, managed_apart, placeless_same}
 use Rattle.policy_machine.proofs.ManagedJudging.{OwnPass, approval_passes, own_pass}
 use Rattle.policy_machine.proofs.SameEffect.{effect_same, state_same}
 
@@ -111,7 +111,6 @@ module _ (form : ManagedForm) (lawful : IsManagedLawful form) (managed : Contain
     one = once;
     quiet = λ unmanaged. absurd (unmanaged managed);
     without_place = λ other admitted done none does. placeless_same admitted.at.volatile done.state.volatile admitted.channel does.volatile none;
-    loads_stay = λ admitted done takes other does. load_same admitted.at.volatile done.state.volatile does.volatile;
   }
 
 -- a delegated command is receipted

@@ -2,12 +2,12 @@
 use Rattle.std.proofs.Common.{◌≡◌, ℕ, List, [], ◌∷◌, Bool, true, false, Option, None, Some, refl, sym, ap, subst, ◌∙◌}
 use Rattle.std.specs.Prelude.{IsSome, MatchOption, find, cond}
 use Rattle.card_types.proofs.SameAid.{aid_same_itself}
-use Rattle.policy_machine.specs.Prelude.{Admitted, AreElements, Effect, Entry, Fits, IsControlInformation, IsSound, Judges, Registry, SelectEffect, SelectsEntry, Spelling, TakesCommand, Volatile, control_parts, entry_named, fits_select, fresh, least_fitting, same_aid, select, with_selected}
+use Rattle.policy_machine.specs.Prelude.{Admitted, AreElements, Effect, Entry, Fits, IsControlInformation, IsSound, Judges, Registry, SelectEffect, SelectsEntry, Spelling, TakesCommand, control_parts, entry_named, fits_select, fresh, least_fitting, same_aid, select, with_selected}
 use Rattle.policy_machine.proofs.SetChannel.{ended_fits}
 use Rattle.policy_machine.proofs.SecureChannelSet.{within}
 use Rattle.bertlv.proofs.SpellingLemmas.{one_spelling, one_spelling_each}
 use Rattle.policy_machine.proofs.SameEffect.{effect_same, state_same}
-use Rattle.policy_machine.proofs.Lawful.{HasNoPlaceOn, IsLawful, IsReady, found_so, load_ended, placeless_same, placeless_set, same_as, sound_with}
+use Rattle.policy_machine.proofs.Lawful.{HasNoPlaceOn, IsLawful, IsReady, found_so, placeless_same, placeless_set, same_as, sound_with}
 use Rattle.policy_machine.proofs.FreshChannel.{fresh_is_well}
 use Rattle.card_types.specs.Registry as registry
 use Rattle.policy_machine.proofs.Judging.{judged}
@@ -76,8 +76,6 @@ select_lawful = record {
   one = λ admitted a b one other. select_one admitted a b _ one other;
   quiet = λ unmanaged admitted done does. same_as admitted.at.registry done.state.registry (selected admitted done does).2.registry;
   without_place = λ other admitted done none does. selects_placeless admitted done none does;
-  loads_stay = λ admitted done takes other does.
-      load_ended admitted.at.volatile done.state.volatile admitted.channel (ap (λ (v : Volatile). v.load) (selected admitted done does).2.volatile);
 }
 
 -- how it is judged, by what was found
