@@ -1,5 +1,5 @@
 -- How a session is opened (GlobalPlatform Amendment D, 7.1.1, 7.1.2).
-use Rattle.std.specs.Prelude.{ℕ, ◌+◌, List, [], length, drop, None, Some, ◌==◌, bytes_eq, if◌then◌else◌}
+use Rattle.std.specs.Prelude.{ℕ, List, [], length, drop, None, Some, ◌==◌, bytes_eq, if◌then◌else◌}
 use Rattle.apdu_core.specs.Apdu.{Apdu}
 use Rattle.apdu_core.specs.ClassBytes.{on_channel}
 use Rattle.scp03_card.specs.Offer.{Offer, card_cryptogram}
