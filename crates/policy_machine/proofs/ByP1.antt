@@ -12,7 +12,7 @@ use Rattle.policy_machine.proofs.Instructed.{each_byte, found_among}
 pub record TakesP1 (these : List ℕ) (form : CommandForm) : Type 0 where
   pub of : (p1 p2 : ℕ) → form.takes p1 p2 → Contains these p1
 
--- each of these forms does
+-- each of these forms takes a command with one of these values alone
 abbrev pub TakeP1 : List ℕ → List CommandForm → Type 0
 TakeP1 these forms = (ins p1 p2 : ℕ) (body : List ℕ) → OneOf (λ form. Takes form ins p1 p2 body) forms → Contains these p1
 
@@ -20,12 +20,14 @@ TakeP1 these forms = (ins p1 p2 : ℕ) (body : List ℕ) → OneOf (λ form. Tak
 abbrev pub are_others : List ℕ → List ℕ → Bool
 are_others these others = list_all (λ p1. not (list_any (λ one. one == p1) others)) these
 
+-- none of the forms takes a value of this one, so none takes a command that it takes
 pub p1_apart : (form : CommandForm) (forms : List CommandForm) (these others : List ℕ) → TakesP1 these form → TakeP1 others forms
     → are_others these others ≡ true → AreApart form forms
 p1_apart form forms these others mine rest differ ins p1 p2 body takes other =
     let no_other = each_byte (λ p1. not (list_any (λ one. one == p1) others)) these differ p1 (mine.of p1 p2 takes.1) in
     true≢false (sym no_other ∙ not_from_true _ (found_among others p1 (rest ins p1 p2 body other)))
 
+-- the values of a form beside those of others
 pub p1_joined : (form : CommandForm) (forms : List CommandForm) (these others : List ℕ) → TakesP1 these form → TakeP1 others forms
     → TakeP1 (these ++ others) (form ∷ forms)
 p1_joined form forms these others mine rest ins p1 p2 body (inl takes) = Contains-append_left these others p1 (mine.of p1 p2 takes.1)

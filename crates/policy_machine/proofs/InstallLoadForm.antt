@@ -18,5 +18,5 @@ install_load_laws =
     quiet_laws install_load (install_load_lawful (among managing 0xE6 refl)) (λ admitted aids so. so)
     (λ admitted done does. same_as admitted.at.registry done.state.registry does.registry) (inl install_load_alike)
 
-pub install_load_p1 : TakesP1 (0x02 ∷ []) (install_load)
+pub install_load_p1 : TakesP1 (0x02 ∷ []) install_load
 install_load_p1 = record { of = λ p1 p2 takes. (0, omega arith, sym takes.0) }
